@@ -3,10 +3,10 @@
 
     ./import_graph.py [--dot | --modules] [FOLDER]
 
-It prints a line for each package, lower ones first; `watch.pages` is a package in `watch`. `--dot` prints Graphviz text instead, with the
-number of imports on each arc, and `--modules` the first sentence of each module's docstring. All
-import statements count, including those in functions. The status is 1 if packages form a cycle;
-then its imports are printed.
+It prints a line for each package, lower ones first; `watch.pages` is a package in `watch`. `--dot`
+prints Graphviz text instead, with the number of imports on each arc, and `--modules` the first
+sentence of each module's docstring. All import statements count, including those in functions. The
+status is 1 if packages form a cycle; then its imports are printed.
 """
 
 import argparse

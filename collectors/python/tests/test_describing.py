@@ -142,7 +142,7 @@ class Involved(unittest.TestCase):
     """All transactions that an explanation may mention, though a refutation names few."""
 
     def held(self, certificate, *lines, marks=(0,) * 8):
-        lines = [["marks", [*marks], [False] * 8], *lines]
+        lines = [["resume", 8, 4096, 2], ["marks", [*marks], [False] * 8], *lines]
         kept = Kept([json.dumps(line, separators=(",", ":")).encode() for line in lines])
         report = ["report", 1, "violated", [100] * 8, certificate]
         return Held(kept, report)

@@ -17,7 +17,7 @@ from zanteyard.watch.proxy._intake import Intake
 from zanteyard.watch.violations._kept import Kept
 from zanteyard.watch.violations._pending import waiting_reads
 from zanteyard.watch.violations._redacting import without_constants, without_values
-from zanteyard.watch.violations._sql_anomalies import LostUpdate, both_replaced
+from zanteyard.watch.violations._sql_anomalies import both_replaced
 from zanteyard.watch.violations._statement_reads import as_shown, by_statement
 from zanteyard.watch.pages._violation_page import violation_page
 from zanteyard.watch.violations._violations import (
@@ -102,7 +102,7 @@ class Explained(unittest.TestCase):
         ).stdout.splitlines()
         report = json.loads(told[-6])
         self.assertEqual(report[2], "violated", told)
-        held = Held(Kept(told[-5:]), report)
+        held = Held(Kept([text(["resume", 3, 64, 2]), *told[-5:]]), report)
         self.involved = held.involved()
         found = explained(1, report, held, answered, PROGRAM, feed.AT)
         self.assertLessEqual({one.id for one in found.told}, {*self.involved})
@@ -306,11 +306,11 @@ class Explained(unittest.TestCase):
         both = {(0, 0): [[[5, init]], [5]], (1, 0): [[[5, init]], [5]]}
         later = {(0, 1): [[[6, init]], [6]], (2, 0): [[[6, init]], [6]]}
         for transactions, counts, keys, wanted in (
-            (both, [1, 1], (), LostUpdate(5, (0, 0), (1, 0))),
-            ({**both, **later}, [2, 1, 1], (), LostUpdate(5, (0, 0), (1, 0))),
-            ({**both, **later}, [2, 1, 1], {6}, LostUpdate(6, (0, 1), (2, 0))),
-            ({**both, **later}, [2, 1], {6}, LostUpdate(5, (0, 0), (1, 0))),
-            ({**both, **later}, [1, 1, 1], {6}, LostUpdate(5, (0, 0), (1, 0))),
+            (both, [1, 1], (), (5, (0, 0), (1, 0))),
+            ({**both, **later}, [2, 1, 1], (), (5, (0, 0), (1, 0))),
+            ({**both, **later}, [2, 1, 1], {6}, (6, (0, 1), (2, 0))),
+            ({**both, **later}, [2, 1], {6}, (5, (0, 0), (1, 0))),
+            ({**both, **later}, [1, 1, 1], {6}, (5, (0, 0), (1, 0))),
             (both, [1, 0], (), None),
             ({(0, 0): [[[5, init]], [5]], (1, 0): [[[5, init]], []]}, [1, 1], (), None),
             ({(0, 0): [[[5, init]], [5]], (1, 0): [[[5, 0, 0]], [5]]}, [1, 1], (), None),
@@ -319,7 +319,8 @@ class Explained(unittest.TestCase):
             ({(0, 0): [[[5, init], [5, init]], [5]]}, [1], (), None),
         ):
             with self.subTest(counts=counts, keys=keys, transactions=transactions):
-                self.assertEqual(both_replaced(transactions, counts, keys), wanted)
+                found = both_replaced(transactions, counts, keys)
+                self.assertEqual(found and (found.key, found.one, found.other), wanted)
 
     def test_a_row_that_was_read_twice(self):
         found = self.of(

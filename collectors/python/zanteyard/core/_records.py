@@ -1,7 +1,7 @@
 """What is logged and what is reported, as plain values."""
 
 import marshal
-from collections.abc import Callable, Iterable, Mapping, Sequence
+from collections.abc import Callable, Iterable, Iterator, Mapping, Sequence
 from typing import Any, NamedTuple, NewType
 
 # A transaction: its session, and its number in that session. There are three numberings, not to be
@@ -87,6 +87,27 @@ def _may_be_told(id: StoreId, source: Source) -> bool:
         return True
     is_named = 0 <= source[0] < SESSIONS and 0 <= source[1] < NUMBERS
     return is_named and tuple(source) != id
+
+
+def has_come(source: Source, received: Sequence[int]) -> bool:
+    """Whether what a read names as its source is there, if `received` is how many transactions of
+    each session are. Sessions that haven't joined have none."""
+    if source == "init":
+        return True
+    session, number = source
+    return session < len(received) and bool(number < received[session])
+
+
+def never_came(history: "History", marks: Sequence[int] | None = None) -> Iterator["Pending"]:
+    """The reads of a history that name transactions which aren't in it. `marks` are how many
+    transactions of each session come before it."""
+    marks = marks or [0] * len(history)
+    received = [mark + len(txns) for mark, txns in zip(marks, history)]
+    for session, txns in enumerate(history):
+        for number, logged in enumerate(txns, marks[session]):
+            for key, source in logged.reads:
+                if not has_come(source, received):
+                    yield Pending(AuditId((session, number)), key, source)
 
 
 def as_bytes(logged: Logged) -> bytes:

@@ -15,6 +15,7 @@ from ..core._records import Logged, Naming, ShownId, Source, Transactions
 from ..promises._kinds import SERIALIZABLE, Promise
 from ._arcs import IN_TIME, Arc, below, told_later, transaction_of
 from ._cycles import kind_of, weakest
+from ._lost_updates import lost_updates
 from ._words import name as plain_name
 from ._words import told_undone, version
 
@@ -274,19 +275,14 @@ def _dirty_writes(
 
 
 def _lost_updates(table: Transactions, _: object, name: Naming) -> Iterator[Anomaly]:
-    first: dict[tuple[str, Source], ShownId] = {}
-    for id, logged in table.items():
-        for key, source in logged.reads:
-            if key not in logged.writes:
-                continue
-            other = first.setdefault((key, source), id)
-            if other != id:
-                yield Anomaly(
-                    "lost update",
-                    f"{name(other)} and {name(id)} both read {_told(key)} "
-                    f"{version(key, source, name)} and both overwrote it: {ONE_IS_LOST}",
-                    (other, id),
-                )
+    deeds = ((id, logged.reads, logged.writes) for id, logged in table.items())
+    for key, source, one, other in lost_updates(deeds):
+        yield Anomaly(
+            "lost update",
+            f"{name(one)} and {name(other)} both read {_told(key)} {version(key, source, name)} "
+            f"and both overwrote it: {ONE_IS_LOST}",
+            (one, other),
+        )
 
 
 def _fractured_reads(

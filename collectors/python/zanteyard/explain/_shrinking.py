@@ -20,6 +20,7 @@ from ._anomalies import UNREPEATABLE, find_anomaly
 from ._arcs import transaction_of
 from ._audited import START, Holding, audited_apart, from_start, named, only_keys, renumbered
 from ._audited import wrong_sources
+from ._lost_updates import lost_updates
 from ._words import name
 
 SECONDS = 5.0  # seconds for reducing a history
@@ -214,23 +215,23 @@ def lost_update_if_any(whole: Part, part: Part, program: str) -> Part:
 
 def _lost_updates(whole: Part) -> Iterator[Part]:
     """Pairs of transactions that read the same version of a key, and both overwrote it."""
-    first: dict[tuple[str, Source], ShownId] = {}
-    for id, logged in sorted(whole.txns.items()):
-        for key, source in logged.reads:
-            writer = whole.txns.get(source)
-            is_known = source == "init" or (writer is not None and key in writer.writes)
-            is_clients = key != START and not is_own(key)
-            if key not in logged.writes or not is_known or not is_clients:
-                continue
-            other = first.setdefault((key, source), id)
-            if other != id:
-                txns = {
-                    one: whole.txns[one]._replace(reads=[(key, source)], writes=[key])
-                    for one in (other, id)
-                }
-                if writer is not None:
-                    txns[source] = writer._replace(reads=(), writes=[key])
-                yield Part(txns, whole.promise)
+
+    def may_be_one(key: str, source: Source) -> bool:
+        is_known = source == "init" or (source in whole.txns and key in whole.txns[source].writes)
+        return is_known and key != START and not is_own(key)
+
+    deeds = (
+        (id, [read for read in logged.reads if may_be_one(*read)], logged.writes)
+        for id, logged in sorted(whole.txns.items())
+    )
+    for key, source, one, other in lost_updates(deeds):
+        txns = {
+            id: whole.txns[id]._replace(reads=[(key, source)], writes=[key]) for id in (one, other)
+        }
+        if source != "init":
+            writer = ShownId(source)
+            txns[writer] = whole.txns[writer]._replace(reads=(), writes=[key])
+        yield Part(txns, whole.promise)
 
 
 def by_names(part: Part, ids: set[ShownId], program: str) -> Part:

@@ -7,13 +7,13 @@ from collections.abc import Iterable, Sequence
 
 from ..core._outcome import COLLECTOR, PENDING, RUNNING, SERIAL, VIOLATED, Outcome, kind_of
 from ..core._own_keys import FENCE, LONGEST
-from ..core._records import AuditId, Cut, Logged, Pending, Report, StoreId
+from ..core._records import AuditId, Cut, Logged, Pending, Report, StoreId, never_came
 from ..program._tenancy import Tenancy
 from ..program._window import SESSIONS, Coverage
 from ..core.errors import AuditLostError, FullError, NoCutError, NotAnchoredError
 from ..explain._shrinking import is_collectors_own
 from ..program._auditor import Auditor
-from ..program._offers import Fragment, never_came
+from ..program._offers import Fragment
 from ._backlog import Backlog, HandedIn
 from ._figures import Figures
 from ._fragments import fragments

@@ -13,7 +13,7 @@ from dataclasses import asdict
 
 from ..core._outcome import RATHER_LOSE_THE_AUDIT, VIOLATED, Outcome, Policy, kind_of
 from ..core._own_keys import FORM, LARGE_FORM
-from ..core._records import Report
+from ..core._records import Report, never_came
 from ..core._store_identity import AuditedStore, checked
 from ._window import Coverage
 from ..core.errors import AuditLostError, ProgramEndedError
@@ -22,7 +22,6 @@ from ..promises._asking import form_of, most_remaining
 from ..promises._kinds import ASKED, SERIALIZABLE
 from ._binaries import PROGRAM as PROGRAM
 from ._intake import Intake
-from ._offers import never_came
 from ._pipes import Pipes
 from ._resuming import Reopened, journaled, reopened
 from ._searched_round import EFFORTS, ROUND_SECONDS, Effort

@@ -2,11 +2,11 @@
 
 import threading
 from collections import Counter
-from collections.abc import Container, Iterator, Sequence
+from collections.abc import Container, Sequence
 from typing import Any
 
 from ..core._own_keys import FENCE
-from ..core._records import ABORTED, AuditId, AuditNaming, Cut, History, Logged, Pending
+from ..core._records import ABORTED, AuditId, AuditNaming, Cut, History, Logged
 from ..core._store_identity import AuditedStore
 from ._tenancy import Tenancy
 from ._window import Coverage
@@ -238,18 +238,3 @@ class Offers(Rounds):
 
 def no_room(session: int, number: int) -> FullError:
     return FullError(f"no room for transaction {number} of session {session}")
-
-
-def never_came(
-    history: History, marks: Sequence[int] | None = None
-) -> Iterator[Pending]:
-    """The reads of a history that name transactions which aren't in it."""
-    marks = marks or [0] * len(history)
-    for session, txns in enumerate(history):
-        for number, logged in enumerate(txns, marks[session]):
-            for key, source in logged.reads:
-                if source != "init":
-                    is_there = source[0] < len(marks)
-                    ended = marks[source[0]] + len(history[source[0]]) if is_there else 0
-                    if source[1] >= ended:
-                        yield Pending(AuditId((session, number)), key, source)

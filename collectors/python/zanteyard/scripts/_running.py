@@ -11,14 +11,13 @@ from dataclasses import dataclass, field, replace
 from typing import Any
 
 from ..core._own_keys import FENCE, FORM, LARGE_FORM
-from ..core._records import ABORTED, AuditId, Logged, Pending
+from ..core._records import ABORTED, AuditId, Logged, Pending, never_came
 from ..program._tenancy import Tenancy
 from ..core.errors import (
     CantBeAskedError,
     ProgramEndedError,
     ScriptMistakeError,
 )
-from ..program._offers import never_came
 from ..program._searched_round import EFFORTS, GUIDED
 from ..promises._asking import KEYS, LIMIT, MOST, MOST_SESSIONS, SESSIONS, Asking, asked_in
 from ..promises._asking import begun_in, most_remaining

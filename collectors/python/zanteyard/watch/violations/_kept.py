@@ -7,10 +7,11 @@ from collections.abc import Collection, Iterable, Sequence
 from typing import Any
 
 from ...core._records import AuditId
+from ...journal._history import state_of
 
 Transaction = list[Any]  # its reads, the keys that it wrote, and "aborted" if it was
 OneRead = tuple[AuditId, tuple[Any, ...]]  # a transaction, and a read of it as in the lines
-MARKS, LAST, OFFER = b'["marks",', b'["last",', b'["offer",'
+LAST, OFFER = b'["last",', b'["offer",'
 
 
 class Kept:
@@ -19,15 +20,13 @@ class Kept:
 
     def __init__(self, lines: Sequence[bytes]) -> None:
         self._lines = lines
-        self.marks: list[int] = []
-        self.transactions: dict[AuditId, Transaction] = {}
-        for line in lines:
-            if line.startswith(MARKS):
-                self.marks = json.loads(line)[1]
-            elif line.startswith(OFFER):
-                _, session, first, transactions = json.loads(line)
-                for number, its in enumerate(transactions, first):
-                    self.transactions[AuditId((session, number))] = its
+        state = state_of(lines, has_last=False)
+        self.marks = state.gone
+        self.transactions: dict[AuditId, Transaction] = {
+            AuditId((session, number)): its
+            for session, mark in enumerate(state.gone)
+            for number, its in enumerate(state.remaining[session], mark)
+        }
 
     def last(self, keys: Iterable[int]) -> dict[int, AuditId]:
         """The last forgotten writers of these keys. The lines may have many megabytes, and aren't

@@ -3,7 +3,7 @@
 from collections.abc import Mapping, Sequence
 from typing import Any
 
-from ...core._records import AuditId
+from ...core._records import AuditId, has_come
 
 SHOWN = 40
 
@@ -17,11 +17,9 @@ def waiting_reads(
     count = 0
     for one, its in sorted(transactions.items()):
         for key, *source in its[0]:
-            if source == ["init"]:
+            if has_come("init" if source == ["init"] else source, received):
                 continue
             session, place = source
-            if session < len(received) and place < received[session]:
-                continue
             count += 1
             if len(lines) < SHOWN:
                 read = f"{one[0]}.{one[1]} read key {key}"

@@ -7,12 +7,13 @@ is shown is a part of the log that the auditor found violated, too.
 """
 
 from collections.abc import Container, Iterator, Mapping, Sequence
-from dataclasses import dataclass, replace
+from dataclasses import replace
 from typing import Any
 
-from ...core._records import ABORTED, AuditId, History, Logged, Naming, ShownId, Source
+from ...core._records import ABORTED, AuditId, History, Logged, Naming, ShownId, Source, has_come
 from ...core._visible import visible
 from ...explain._anomalies import ONE_IS_LOST, UNREPEATABLE, Anomaly
+from ...explain._lost_updates import LostUpdate, lost_updates
 from ...explain._report import Story
 from ...explain._shrinking import Part, is_violated
 from ...explain._words import version
@@ -34,34 +35,24 @@ def read_twice(history: History) -> Iterator[tuple[ShownId, str, set[Source]]]:
                     yield ShownId((session, number)), key, its
 
 
-@dataclass(frozen=True)
-class LostUpdate:
-    """Two transactions that read the same version of a key and both replaced it."""
-
-    key: int
-    one: AuditId
-    other: AuditId
+RowUpdate = LostUpdate[AuditId, int, tuple[Any, ...]]  # a lost one, of a row
 
 
 def both_replaced(
     transactions: Mapping[AuditId, Sequence[Any]], counts: Sequence[int], keys: Container[int]
-) -> LostUpdate | None:
+) -> RowUpdate | None:
     """The first lost update among the transactions of a round, of which `counts` has the number in
     each session; one on one of `keys`, if possible. Of a violated round, people understand this
     best."""
-    readers: dict[tuple[Any, ...], AuditId] = {}
-    found: LostUpdate | None = None
-    for one, its in sorted(transactions.items()):
-        is_of_round = one[0] < len(counts) and one[1] < counts[one[0]]
-        if not is_of_round or ABORTED in its:
-            continue
-        for read in {tuple(read) for read in its[0] if read[0] and read[0] in its[1]}:
-            other = readers.setdefault(read, one)
-            if other == one or (found is not None and read[0] not in keys):
-                continue
-            if read[0] in keys:
-                return LostUpdate(read[0], other, one)
-            found = LostUpdate(read[0], other, one)
+    found: RowUpdate | None = None
+    for one in lost_updates(
+        (id, [(key, tuple(version)) for key, *version in its[0] if key], its[1])
+        for id, its in sorted(transactions.items())
+        if has_come(id, counts) and ABORTED not in its
+    ):
+        if one.key in keys:
+            return one
+        found = found or one
     return found
 
 

@@ -20,7 +20,7 @@ from ._conflicts import READ_BEFORE, Cycle
 from ._described import Described, by_time, clock, lines_of
 from ._kept import Kept, Transaction
 from ._sql_anomalies import (
-    LostUpdate, both_replaced, lost_update, over_conditions, whose_is_lost
+    RowUpdate, both_replaced, lost_update, over_conditions, whose_is_lost
 )
 from ._sql_anomalies import named as named_story
 from ._statement_reads import as_shown, by_statement
@@ -198,7 +198,7 @@ class Held:
         self.marks, self._cycle = [*kept.marks], cycle
         self.edges = cycle.edges if cycle is not None else ()
         transactions: Mapping[AuditId, Transaction] = kept.transactions
-        self.lost: LostUpdate | None = None
+        self.lost: RowUpdate | None = None
         if cycle is None:
             keys = keys_of(self.certificate)
             self.lost = both_replaced(transactions, counts, keys)
@@ -283,14 +283,14 @@ class Held:
         return f"{one[0]}.{one[1]}"
 
 
-def _lost_in(cycle: Cycle, transactions: Mapping[AuditId, Transaction]) -> LostUpdate | None:
+def _lost_in(cycle: Cycle, transactions: Mapping[AuditId, Transaction]) -> RowUpdate | None:
     """The lost update that a cycle of two transactions is: one has read a version, and overwrote
     another one, after the other transaction had replaced it."""
     if len(cycle.ids) != 2:
         return None
     for edge in cycle.edges:
         if edge.kind == READ_BEFORE and edge.version[0] in transactions[edge.one][1]:
-            return LostUpdate(edge.version[0], edge.other, edge.one)
+            return RowUpdate(edge.version[0], edge.version[1:], edge.other, edge.one)
     return None
 
 
