@@ -194,7 +194,7 @@ class GoesOn(test_watch_audit.Audits):
     def setUp(self):
         """Nothing is left out for want of time, however slow the machine is."""
         for name, value in (
-            ("_found.cycles_of", functools.partial(cycles_of, seconds=3600.0)),
+            ("violations._found.cycles_of", functools.partial(cycles_of, seconds=3600.0)),
             ("_watching.DESCRIBING", 3600.0),
         ):
             patched = mock.patch(f"zanteyard.watch.{name}", value)
