@@ -20,7 +20,7 @@ from zanteyard.core._own_keys import FLAG
 from zanteyard.live._backlog import Backlog
 from zanteyard.program._window import Coverage
 from zanteyard.live._audit_start import coverage_from_now
-from zanteyard.core.errors import AuditLostError, NotAnchoredError
+from zanteyard.core.errors import AuditLostError, JournalError, NotAnchoredError, ProgramEndedError
 from zanteyard.remote._crash_recovery import NOTHING, CrashedProcess
 from zanteyard.stores.memory import MemoryStore
 from zanteyard.session._crash_notes import CrashNote
@@ -188,6 +188,23 @@ class TakenIn(WithProgram):
         self.audit.run_round()
         self.assertEqual((self.audit.report.kind, self.audit.taken_in), ("serial", 6))
         self.audit.find_held()
+
+    def test_what_fails_while_a_round_is_searched_is_the_reason(self):
+        """Not what the auditor says after that to who waits for the report."""
+        full = JournalError("the disk is full")
+
+        self.hand_in((0, 0, fence("init")))
+        self.backlog.put((0.0, 0, 1, wrote("x")))
+        steps = iter((False,))  # at first the search goes on
+
+        def ended(_):
+            if next(steps, None) is None:
+                raise ProgramEndedError("its process was given up")
+            return False
+
+        with mock.patch.object(self.auditor, "offer_all", side_effect=full), mock.patch.object(self.auditor, "has_round", ended):
+            with self.assertRaises(JournalError):
+                self.audit.run_round(goes_on=True)
 
     def test_one_waits_for_another(self):
         """For its fence, and for its number."""

@@ -12,8 +12,7 @@ def begin() -> None:
     """Makes Ctrl-C end the command at once, without a traceback, until its `main` takes over. Does
     nothing in another program that imports the package, or if the signal is ignored."""
     handler = signal.getsignal(signal.SIGINT)
-    words = getattr(sys, "orig_argv", ())  # since Python 3.10
-    if handler is signal.default_int_handler and is_command(getattr(sys, "argv", ()), words):
+    if handler is signal.default_int_handler and is_command(sys.argv, sys.orig_argv):
         _begun.append(signal.signal(signal.SIGINT, signal.SIG_DFL))
 
 

@@ -24,7 +24,7 @@ from ..core._private_files import private
 from ..core.errors import FolderUnfitError, KeyFileError, ZanteyardError
 from ..explain._audited import from_start, refuted
 from ..explain._violation_text import tell_violation
-from ..journal._file import Journal
+from ..journal._file import keep_earlier
 from ..live._live_auditor import LiveAuditor
 from ..program._auditor import Auditor
 from ..program._binaries import find_program
@@ -169,12 +169,7 @@ def _auditor(asked: argparse.Namespace) -> Auditor:
     path = os.path.join(asked.folder, JOURNAL)
     settings: Any = {"program": find_program(), "script": _unused(asked.script)}
     settings["round_seconds"] = asked.round_seconds
-    if os.path.lexists(path):
-        journal = Journal(path)  # another daemon may be using it
-        try:
-            os.replace(path, f"{path}.old")
-        finally:
-            journal.close()
+    keep_earlier(path)
     return Auditor(asked.sessions, journal=path, promise=asked.promise, **settings)
 
 

@@ -50,7 +50,7 @@ class Arc(NamedTuple):
     start: Node
     end: Node
     why: str
-    needs: tuple[Any, ...]  # of Arc, which this Python's types can't name here
+    needs: tuple["Arc", ...]
     kind: str = IN_SESSION
     key: str = ""  # the key that was read, if that is the reason
     choice: Choice | None = None

@@ -15,7 +15,7 @@ def explanation_of(audited: Audited, history: History, name: Naming = name) -> E
     """What the auditor's refutation of this history says."""
     report = audited.report
     if report.kind != VIOLATED:
-        return Explanation(f"the auditor finds these by themselves {report.kind}")
+        return Explanation(f"checked by themselves, these transactions are {report.kind}")
     try:
         its = (report.certificate, history, audited.keys, name, audited.moved)
         return read_refutation(*its, keeps_sessions=audited.ids is None)

@@ -195,3 +195,14 @@ def _leave_all() -> None:
 
 _journals: "weakref.WeakSet[Journal]" = weakref.WeakSet()
 os.register_at_fork(after_in_child=_leave_all)
+
+
+def keep_earlier(path: str) -> None:
+    """Renames the journal of an earlier run to PATH.old, if there is one. Raises JournalInUseError
+    if that run isn't over."""
+    if os.path.lexists(path):
+        journal = Journal(path)
+        try:
+            os.replace(path, f"{path}.old")
+        finally:
+            journal.close()

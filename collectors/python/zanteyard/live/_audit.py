@@ -328,6 +328,8 @@ class Audit:
                         self._take_in_what_fits()
                 except Exception as error:
                     wrong = error
+        except Exception as error:
+            raise wrong or error  # the first one is the reason for the other
         finally:
             self._is_searched = False
         return wrong

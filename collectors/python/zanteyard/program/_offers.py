@@ -6,7 +6,7 @@ from collections.abc import Container, Sequence
 from typing import Any
 
 from ..core._own_keys import FENCE
-from ..core._records import ABORTED, AuditId, AuditNaming, Cut, History, Logged
+from ..core._records import ABORTED, AuditId, AuditNaming, Cut, Logged
 from ..core._store_identity import AuditedStore
 from ._tenancy import Tenancy
 from ._window import Coverage
@@ -40,17 +40,11 @@ class Offers(Rounds):
         self.from_before = 0
         self.numbers: dict[str, int] = {FENCE: 0}
         self.names = [FENCE]  # key names by number, and numbers by name
-        self.history: History = [[] for _ in range(self.sessions)]  # for each session
-        self.marks = [0] * self.sessions  # how many transactions of each session are forgotten
+        self.history, self.marks = [[] for _ in range(self.sessions)], [0] * self.sessions
         self.closed = [False] * self.sessions  # sessions that have ended
         # The last forgotten writer of each key that has one.
         self.base: dict[str, AuditId] = {}
         self._tenancy = Tenancy()  # of clients, by their first transactions
-
-    @property
-    def received(self) -> list[int]:
-        """How many transactions of each session were taken in, including forgotten ones."""
-        return [gone + len(txns) for gone, txns in zip(self.marks, self.history)]
 
     @property
     def remaining(self) -> int:

@@ -7,11 +7,11 @@ from collections.abc import Iterator, Sequence
 from contextlib import contextmanager
 from typing import Any
 
-from ..core._records import Report
+from ..core._records import History, Report
 from ..core.errors import NoRoundError
 from ._lines import SECONDS, Lines, refusal_of, written
-from ._searched_round import COLLECT, EFFORTS, GUIDED, REPORT, SKIP, Effort, SearchedRound
-from ._searched_round import pause_after
+from ._searched_round import COLLECT, EFFORTS, GUIDED, REPORT, SKIP, Effort, RoundCount
+from ._searched_round import SearchedRound, pause_after
 from ._supervised import SupervisedProgram
 
 COLLECTED = b'["collect","wait"]'  # has the same reply whenever a script is replayed
@@ -22,9 +22,15 @@ class Rounds(Lines):
     """Safe for use by several threads, except that one thread at a time begins a round and takes
     its report."""
 
-    received: Any  # how many transactions of each session were taken in, including forgotten ones
+    history: History  # for each session, what was taken in and isn't forgotten
+    marks: list[int]  # how many transactions of each session are forgotten
     _rounds: threading.RLock  # one round at a time, for one caller
     _is_round_begun = False  # and waits for its `last_round`
+
+    @property
+    def received(self) -> list[int]:
+        """How many transactions of each session were taken in, including forgotten ones."""
+        return [gone + len(txns) for gone, txns in zip(self.marks, self.history)]
 
     def begin_round(self, efforts: Sequence[Effort] = EFFORTS) -> None:
         """Begins the round that the next `last_round` reports. What is offered in between isn't
@@ -61,8 +67,7 @@ class Rounds(Lines):
         self._search: SearchedRound | None = None
         self._may_be_open = False  # a round, after an interrupt
         self._report: Report | None = None  # ready, but not yet taken
-        self._told = told  # reported rounds
-        self._uncounted = 0  # reported rounds that the program doesn't count
+        self._count = RoundCount(told)
 
     def _begin_search(self, efforts: Sequence[Effort]) -> None:
         """Starts the search of a round. An open round that nobody waits for is skipped."""
@@ -114,16 +119,14 @@ class Rounds(Lines):
             return
         if reply is not None:
             report = Report(*reply[1:])
-            self._told = report.number + self._uncounted
+            number = self._count.reported(report.number)
             if report.kind == SPENT and self._efforts:
                 self._search_next()
                 return
-            self._report = report._replace(number=self._told)
+            self._report = report._replace(number=number)
         elif self._search.is_skipped:
-            self._told += 1
-            if not isinstance(self.program, SupervisedProgram):
-                self._uncounted += 1
-            self._report = Report(self._told, SPENT, self._begun_with)
+            number = self._count.skipped(isinstance(self.program, SupervisedProgram))
+            self._report = Report(number, SPENT, self._begun_with)
         else:
             return
         self._search, self._may_be_open = None, False

@@ -26,6 +26,28 @@ def pause_after(seconds: float) -> float:
     return min(LONGEST_PAUSE, max(LEAST_PAUSE, seconds / SHARE))
 
 
+class RoundCount:
+    """The number of the last round that was reported. A skipped round has a number too, which its
+    program doesn't count, unless it has a journal."""
+
+    def __init__(self, last: int = 0) -> None:
+        self.last, self._uncounted = last, 0
+
+    def reported(self, number: int) -> int:
+        """The number of a report that has this number from its program."""
+        self.last = number + self._uncounted
+        return self.last
+
+    def skipped(self, is_counted: bool) -> int:
+        """The number of a round that was skipped."""
+        self.last, self._uncounted = self.last + 1, self._uncounted + (not is_counted)
+        return self.last
+
+    def begin_again(self) -> None:
+        """Another program goes on, which counts from 1."""
+        self._uncounted = self.last
+
+
 class SearchedRound:
     """A round over what has been taken in when this object is made; for one thread at a time. Each
     call raises what `ask` raises."""

@@ -28,7 +28,7 @@ class ClientProcess:
     how it is noticed that the process is dead."""
 
     def __init__(self, live: LiveAuditor, messages: Channel) -> None:
-        self._live, self.messages = live, messages  # type: LiveAuditor, Channel
+        self._live, self.messages = live, messages
         waits = live.policy.wait
         self.group = RemoteGroup(messages, waits, live.give_back_lent, live.give_back)
         self.thread = threading.Thread(target=self._listen, daemon=True)

@@ -51,7 +51,7 @@ class Messages:
         """Sends a message. Waits up to `seconds` for other threads' messages. Raises OSError if the
         other end is gone or accepts nothing."""
         plain: Any = message  # what marshal takes isn't a type
-        text, taken = marshal.dumps(plain), []  # type: bytes, list[bool]
+        text, taken = marshal.dumps(plain), list[bool]()
         try:
             if not take(self._lock, seconds, taken):
                 raise OSError("another message is still being sent")

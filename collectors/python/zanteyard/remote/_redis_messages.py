@@ -222,7 +222,8 @@ class ClientsEnd(SignedMessages):
         client = secrets.token_hex(16)
         super().__init__(shared, shared.clients, shared.upwards, run, client)
         self._reader = StreamReader(shared, shared.to(client))
-        self._heard, self._arrived = time.monotonic(), []  # type: float, list[Message]
+        self._heard = time.monotonic()
+        self._arrived: list[Message] = []
         self._has_ended = False
         self._beats = threading.Thread(target=self._beat, daemon=True)
         self._beats.start()

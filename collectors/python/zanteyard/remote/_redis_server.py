@@ -49,7 +49,7 @@ class RedisProcess(ClientProcess):
 
     def _take_logged(self, logged: Sequence[Any], dropped: int) -> None:
         """Its clock isn't this machine's: what it did counts from when it is taken in."""
-        now, taken = time.monotonic(), []  # type: float, list[Any]
+        now, taken = time.monotonic(), list[Any]()
         for session, number, fields in logged:
             if number is None:
                 taken.append((now, session, None, (), b""))

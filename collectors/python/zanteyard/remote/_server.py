@@ -34,7 +34,7 @@ class ProcessServer:
     """The processes of clients that are connected to a live audit in one way."""
 
     def __init__(self, live: LiveAuditor) -> None:
-        self._live, self._processes = live, []  # type: LiveAuditor, list[Any]
+        self._live, self._processes = live, list[Any]()
         self._is_closing, self._has_closed = False, threading.Event()
 
     def close(self, patience: float = CLOSING) -> None:

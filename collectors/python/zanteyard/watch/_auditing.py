@@ -6,7 +6,6 @@ of the previous one.
 
 import json
 import logging
-import os
 import re
 import uuid
 from collections.abc import Iterator, Sequence
@@ -14,12 +13,12 @@ from typing import Any
 
 from ..core._own_keys import FENCE
 from ..core.errors import JournalError, ProgramEndedError, RefusedError
-from ..journal._file import Journal
+from ..journal._file import keep_earlier
 from ..journal._entries import Head
 from ..program._checkpoint import MARKS, OK, saved_lines, why_not_resumed
 from ..program._lines import refusal_of as refused, written
 from ..program._pipes import Pipes
-from ..program._searched_round import SearchedRound
+from ..program._searched_round import RoundCount, SearchedRound
 from ..program._supervised import SupervisedProgram
 from ..program._resuming import journaled
 from ..promises._asking import Asking, asked_in, most_remaining
@@ -53,15 +52,14 @@ class Auditing:
         self.path, self.journal, self.round_seconds = path, journal, round_seconds
         self.promise = promise
         self.audits = 0
-        self._round = 0  # number of the last one
-        self._uncounted = 0  # skipped rounds, which the program doesn't count
+        self._rounds = RoundCount()
         self._answer = self._refusal = b""  # the last reply, and the last one that was a refusal
         self._rewrites = False  # lines have to be asked in other words
         self._limit = 0  # transactions that may remain
         self.run_name = uuid.uuid4().hex
         self._program: Pipes | SupervisedProgram | None = None
         if journal is not None:
-            _set_aside(journal)
+            keep_earlier(journal)
 
     @property
     def restarts(self) -> int:
@@ -122,7 +120,8 @@ class Auditing:
         if self._program is not None:
             self._program.kill()
             self._program.end()
-        self._program, self._uncounted = Pipes(self.path), self._round
+        self._program = Pipes(self.path)
+        self._rounds.begin_again()
         for answer in self._replies(lines):
             if answer != OK:
                 self._kill()
@@ -131,7 +130,7 @@ class Auditing:
     def _begin(self, line: bytes) -> None:
         self.end()
         self.audits += 1
-        self._round = self._uncounted = 0
+        self._rounds = RoundCount()
         self._asking = Asking(self.promise, keeps_version=True)
         self._rewrites = self.promise.asks_itself and asked_in(json.loads(line)) != SNAPSHOT
         found = OPEN.match(line)
@@ -200,15 +199,13 @@ class Auditing:
                 search.pause(SECONDS)
                 report = search.look()
             if report is None:
-                self._round += 1
-                self._uncounted += not isinstance(self._program, SupervisedProgram)
+                number = self._rounds.skipped(isinstance(self._program, SupervisedProgram))
                 counts = self._reply_to(["show"])[2]
-                return written(["report", self._round, "spent", counts]).encode()
+                return written(["report", number, "spent", counts]).encode()
         except RefusedError:
             return self._refusal
-        self._round = report[1] + self._uncounted
         rest = self._answer[self._answer.index(b",", len(REPORT)) :]
-        return b"%s%d%s" % (REPORT, self._round, rest)
+        return b"%s%d%s" % (REPORT, self._rounds.reported(report[1]), rest)
 
     def _reply_to(self, line: Sequence[Any]) -> list[Any]:
         """The reply to a line; of a report only its head. Raises RefusedError."""
@@ -236,17 +233,6 @@ class Auditing:
                 program.end()
             except OSError as error:
                 logger.warning("the auditor didn't end cleanly: %s", error)
-
-
-def _set_aside(path: str) -> None:
-    """Renames the journal of an earlier run to PATH.old. Raises JournalInUseError if that run isn't
-    over."""
-    if os.path.lexists(path):
-        journal = Journal(path)
-        try:
-            os.replace(path, f"{path}.old")
-        finally:
-            journal.close()
 
 
 def head_of(report: bytes) -> tuple[int, str, list[int]]:

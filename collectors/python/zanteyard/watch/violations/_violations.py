@@ -87,7 +87,7 @@ class Told:
 
     label: str
     id: AuditId
-    its: Any  # a Described, or None
+    its: Described | None
     reads: tuple[tuple[str, ...], ...] = ()  # by statement: what it read, as far as it is shown
 
 
