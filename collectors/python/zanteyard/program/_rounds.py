@@ -67,7 +67,7 @@ class Rounds(Lines):
         self._search: SearchedRound | None = None
         self._may_be_open = False  # a round, after an interrupt
         self._report: Report | None = None  # ready, but not yet taken
-        self._count = RoundCount(told)
+        self._round_count = RoundCount(told)
 
     def _begin_search(self, efforts: Sequence[Effort]) -> None:
         """Starts the search of a round. An open round that nobody waits for is skipped."""
@@ -119,13 +119,13 @@ class Rounds(Lines):
             return
         if reply is not None:
             report = Report(*reply[1:])
-            number = self._count.reported(report.number)
+            number = self._round_count.reported(report.number)
             if report.kind == SPENT and self._efforts:
                 self._search_next()
                 return
             self._report = report._replace(number=number)
         elif self._search.is_skipped:
-            number = self._count.skipped(isinstance(self.program, SupervisedProgram))
+            number = self._round_count.skipped(isinstance(self.program, SupervisedProgram))
             self._report = Report(number, SPENT, self._begun_with)
         else:
             return
