@@ -210,6 +210,45 @@ func TestAsByTheirOwnPlan(t *testing.T) {
 	}
 }
 
+// TestDistinctOfRanges runs a statement of sysbench's, prepared, with other constants each time.
+func TestDistinctOfRanges(t *testing.T) {
+	needServer(t)
+	sql(t, `DROP TABLE IF EXISTS ranges; CREATE TABLE ranges (id int PRIMARY KEY, k int, c char(120), pad char(60));
+		INSERT INTO ranges SELECT i, i, i % 80 || '-' || i % 7, 'p' FROM generate_series(1, 2000) i`)
+	sql(t, "VACUUM ANALYZE ranges")
+	plain, p := direct(t, "postgres"), through(t, "postgres", knowing(t, catalog.OnlyCertainLists))
+	statement := named("d", "SELECT DISTINCT c FROM ranges WHERE id BETWEEN $1 AND $2 ORDER BY c")
+	plain.do(statement)
+	p.do(statement)
+	run := func(from, to string, format int16) (reads int) {
+		p.sink.take()
+		p.sink.forget()
+		its := bound("d", []int16{format}, from, to)
+		if got, want := show(p.do(its)), show(plain.do(its)); got != want {
+			t.Fatalf("from %s to %s: got\n%s\nand not\n%s", from, to, got, want)
+		}
+		p.settle()
+		for _, one := range p.sink.take() {
+			reads += len(one.Reads)
+		}
+		return reads
+	}
+	until(t, "it was tried", func() bool {
+		run("101", "200", 0)
+		return !p.sink.left("not tried") && !p.sink.left("what names refer to")
+	})
+	for i, x := range []struct {
+		from, to string
+		reads    int
+	}{
+		{"101", "200", 100}, {"7", "7", 1}, {"1801", "2100", 200}, {"5", "4", 0}, {"1", "256", 256}, {"1", "257", 0},
+	} {
+		if got := run(x.from, x.to, int16(i%2)); got != x.reads {
+			t.Errorf("from %s to %s %d reads are told, and not %d: %q", x.from, x.to, got, x.reads, p.sink.unseen)
+		}
+	}
+}
+
 // TestRests: an aggregate of many rows by a condition of which the server expected few is left as it is for a while, on
 // all connections.
 func TestRests(t *testing.T) {
