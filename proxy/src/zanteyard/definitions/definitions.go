@@ -21,7 +21,7 @@ import (
 // transactions wrote them. Temporary tables don't count: each connection has its own, and shows which (package session).
 var markText = own.SQL("SELECT pg_catalog.concat_ws('|'" +
 	newest + "pg_catalog.pg_class WHERE relpersistence <> 't')" + newest + "pg_catalog.pg_proc)" +
-	newest + "pg_catalog.pg_attribute WHERE attnum > 0 AND attrelid >= 16384 AND attrelid NOT IN" + temporary +
+	newest + "pg_catalog.pg_attribute WHERE (attnum > 0 OR attacl IS NOT NULL) AND attrelid >= 16384 AND attrelid NOT IN" + temporary +
 	newest + "pg_catalog.pg_namespace WHERE nspname NOT LIKE 'pg\\_%temp\\_%')" +
 	newest + "pg_catalog.pg_auth_members)" + newest + "pg_catalog.pg_enum)" +
 	(newest + "pg_catalog.pg_index WHERE indrelid NOT IN" + temporary + newestMade + newestCalls) +

@@ -104,8 +104,8 @@ func (p *Plan) TooDear(with, without float64) bool {
 // Dear is why a statement is left as it is whose plan would be more than a third dearer with the hidden columns.
 const Dear = "the hidden columns would make its plan more than a third dearer"
 
-// Reordered is why a statement is left as it is whose rows would be read in another order with the hidden columns.
-const Reordered = "the hidden columns would change the order in which it reads rows"
+// Reordered is why a statement is left as it is whose rows might be read in another order with the hidden columns.
+const Reordered = "the hidden columns might change the order in which it reads rows"
 
 // Uncompared is why a statement is left as it is of which it isn't known whether they would.
 const Uncompared = "its plans with the hidden columns and without them couldn't be compared"

@@ -24,13 +24,38 @@ type planned struct {
 	Index     string    `json:"Index Name"`
 	Direction string    `json:"Scan Direction"`
 	Command   string    `json:"Command"`
+	Rows      float64   `json:"Plan Rows"`
+	Width     float64   `json:"Plan Width"`
 	Plans     []planned `json:"Plans"`
+}
+
+// What is hashed or sorted is split into batches if it takes more memory than the server allows, by default 4 MiB. Wider rows
+// take more. In which order rows come then is in no plan.
+const (
+	mostHeld = 1 << 20 // bytes, as the server expects: it may expect too few
+	overhead = 24      // bytes of a row
+)
+
+// large reports whether a part of a plan may hold so many rows that they are split.
+func (n *planned) large() bool {
+	switch {
+	case n.Type == "Hash", n.Type == "Sort", n.Type == "Incremental Sort", n.Type == "Aggregate" && n.Strategy != "Plain" && n.Strategy != "Sorted":
+		if n.Rows*(n.Width+overhead) > mostHeld {
+			return true
+		}
+	}
+	for i := range n.Plans {
+		if n.Plans[i].large() {
+			return true
+		}
+	}
+	return false
 }
 
 // Form returns what the answer to Explained says of how rows are read: in the same form they are read in the same order,
 // and the same tables are read whole. A scan of an index alone has the form of one that looks into the table. If the order
 // doesn't matter, the form is only which tables are read whole: at serializable these are locked. "" if the answer can't
-// be read.
+// be read, or doesn't say in which order rows are read.
 func (p *Plan) Form(answer []byte) string {
 	var all []struct {
 		Plan *planned
@@ -42,6 +67,9 @@ func (p *Plan) Form(answer []byte) string {
 		whole := all[0].Plan.whole(nil)
 		sort.Strings(whole)
 		return "whole: " + strings.Join(whole, ", ")
+	}
+	if all[0].Plan.large() {
+		return ""
 	}
 	var out strings.Builder
 	all[0].Plan.write(&out)

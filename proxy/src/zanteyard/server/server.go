@@ -290,20 +290,23 @@ func (s *Server) sessionOf(request packet) *session.Session {
 // means the same there. The server closes the connection when it has handled the request, and then so does the proxy: a
 // client may wait for that.
 func (s *Server) cancel(ctx context.Context, request packet) {
+	pass := func() { s.pass(ctx, request) }
+	if one := s.sessionOf(request); one != nil {
+		one.Cancel(ctx, pass)
+		return
+	}
+	pass()
+}
+
+// pass sends the server one request, on a connection of its own, and waits until the server has handled it.
+func (s *Server) pass(ctx context.Context, request packet) {
 	server, err := s.dial(ctx)
 	if err != nil {
 		return
 	}
 	defer server.Close()
 	defer closeAfter(ctx, server)()
-	pass := func() {
-		if _, err := server.Write(request); err == nil {
-			io.Copy(io.Discard, server)
-		}
+	if _, err := server.Write(request); err == nil {
+		io.Copy(io.Discard, server)
 	}
-	if one := s.sessionOf(request); one != nil {
-		one.Cancel(ctx, pass)
-		return
-	}
-	pass()
 }

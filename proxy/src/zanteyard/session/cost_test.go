@@ -22,7 +22,7 @@ func TestDearPlans(t *testing.T) {
 		{"few rows, by an index", "SELECT v FROM sorted ORDER BY a, b LIMIT 10", step{}, false},
 		{"few rows", "SELECT v, w FROM t WHERE id > 2 ORDER BY v", step{}, false},
 		{"a join of few rows", "SELECT t.v FROM t JOIN u ON u.a = t.id ORDER BY t.w", step{}, false},
-		{"a window, whose rows get the columns afterwards", "SELECT v, lag(v) OVER (ORDER BY v) FROM sorted", step{}, false},
+		{"a window, whose rows get the columns afterwards", "SELECT v, lag(v) OVER (ORDER BY v) FROM sorted WHERE v < 5000", step{}, false},
 		{"a sort with a parameter", "", extended("SELECT v FROM sorted WHERE v > $1 ORDER BY v", nil, "99990"), true},
 		{"a cursor", "BEGIN; DECLARE c CURSOR FOR SELECT v FROM sorted ORDER BY v; FETCH 2 FROM c; COMMIT", step{}, true},
 		{"a parameter that can't be NULL", "", extended("SELECT v FROM t WHERE id > $1::certain ORDER BY v", nil, "18"), false},

@@ -45,8 +45,16 @@ func (r *replay) pass() bool {
 // again reports whether an error may come from the rewriting and can be undone. If so, it is held until ReadyForQuery
 // says that no block is open.
 func (s *Session) again(e *expectation, m []byte) bool {
+	if !e.altered() || !rewriting(m) {
+		return false
+	}
+	if u := e.use; u != nil { // also in a block: it would fail in the next one as well
+		u.state, u.generation = failed, s.trust.generation
+		u.reason = "it failed once, because a table had changed"
+		s.options.Shared.drop(s.trust.signature, u.plan)
+	}
 	r := &s.replay
-	if !e.altered() || !r.valid || r.given || s.partial || s.open || s.status != 'I' || !rewriting(wire.Field(m, 'C')) {
+	if !r.valid || r.given || s.partial || s.open || s.status != 'I' {
 		return false
 	}
 	for i := s.queue.head; i < len(s.queue.list)-1; i++ {
@@ -59,17 +67,17 @@ func (s *Session) again(e *expectation, m []byte) bool {
 	}
 	r.running = true
 	r.failure = wire.AppendMoved(r.failure[:0], m, e.moved())
-	if u := e.use; u != nil {
-		u.state, u.generation = failed, s.trust.generation
-		u.reason = "it failed once, because a table had changed"
-		s.options.Shared.drop(s.trust.signature, u.plan)
-	}
 	return true
 }
 
 // rewriting reports whether an error can come from hidden columns: names, rights, types, limits, a twin that is
-// missing.
-func rewriting(code []byte) bool {
+// missing. One that comes from inside a function, a trigger or a policy has a context: it is the statement's own, which may
+// have done what no rollback undoes, such as taking a number of a sequence.
+func rewriting(m []byte) bool {
+	if len(wire.Field(m, 'W')) > 0 {
+		return false
+	}
+	code := wire.Field(m, 'C')
 	for _, class := range []string{"42", "0A", "54", "26", "XX"} {
 		if bytes.HasPrefix(code, []byte(class)) {
 			return true

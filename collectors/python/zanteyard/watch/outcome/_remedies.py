@@ -59,7 +59,7 @@ REMEDIES: Sequence[tuple[str, str]] = (
     ("MERGE", "use INSERT .. ON CONFLICT, or UPDATE"),
     ("the hidden columns would make its plan", "more work_mem may help, or an index that sorts"),
     ("an index may answer", "select a column that no index has"),
-    ("the hidden columns would change the order", "select a column that no index has"),
+    ("the hidden columns might change the order", "add an ORDER BY of the whole key"),
     ("two tables with the same name", "give each its own alias"),
     ("tables of an UPDATE or DELETE", "select their rows first"),
     ("not tried on its connection yet", "it was a first run"),

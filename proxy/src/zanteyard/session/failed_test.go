@@ -1,0 +1,77 @@
+package session
+
+import (
+	"context"
+	"testing"
+	"time"
+
+	"zanteyard/definitions"
+)
+
+// TestFailedInABlock: a statement whose hidden columns may not be read any more, which the proxy hasn't noticed, fails in one
+// block at most.
+func TestFailedInABlock(t *testing.T) {
+	needServer(t)
+	sql(t, "DROP TABLE IF EXISTS r; CREATE TABLE r (id int PRIMARY KEY, v int); INSERT INTO r VALUES (1, 1); "+
+		"GRANT SELECT (id, v, xmin, tableoid) ON r TO limited")
+	d, err := definitions.Open(context.Background(), config(), time.Hour, func(string) {})
+	if err != nil {
+		t.Fatal(err)
+	}
+	p := through(t, "limited", func(o *Options) { o.Plans, o.Generation = d, d.Generation })
+	block := []string{"BEGIN", "SELECT v FROM r WHERE id = 1", "COMMIT"}
+	p.warm(block...)
+	p.sink.take()
+	for _, text := range block {
+		p.query(text)
+	}
+	if its := p.sink.take(); len(its) == 0 || len(its[0].Reads) == 0 {
+		t.Fatalf("nothing was read: %+v, %q", its, p.sink.unseen)
+	}
+	sql(t, "REVOKE SELECT (xmin) ON r FROM limited")
+	for i := 0; i < 3; i++ {
+		p.query(block[0])
+		if got := p.query(block[1]); i > 0 && fails(got) {
+			t.Errorf("block %d: %s", i, show(got))
+		}
+		p.query(block[2])
+		p.settle()
+	}
+}
+
+// TestFailsOnce: a statement that fails by what a function of it raises isn't run once more, whatever the error's class:
+// numbers of sequences and locks of the session outlast the error.
+func TestFailsOnce(t *testing.T) {
+	needServer(t)
+	sql(t, fill)
+	sql(t, `DROP SEQUENCE IF EXISTS calls CASCADE; CREATE SEQUENCE calls;
+		CREATE OR REPLACE FUNCTION refuses(n int) RETURNS int LANGUAGE plpgsql AS $$BEGIN
+			PERFORM nextval('calls');
+			IF (SELECT v FROM u WHERE a = 1 LIMIT 1) IS NULL THEN RAISE insufficient_privilege; END IF;
+			RETURN n; END$$`)
+	defer sql(t, "DROP FUNCTION refuses(int)")
+	for _, text := range []string{"SELECT refuses(v) FROM t WHERE id = 3", "UPDATE t SET v = refuses(v) WHERE id = 3"} {
+		sql(t, "UPDATE u SET v = 1 WHERE a = 1")
+		p := through(t, "postgres", nil)
+		for i := 0; i < 5; i++ {
+			p.warm(text)
+		}
+		sql(t, "UPDATE u SET v = NULL WHERE a = 1")
+		before := show(direct(t, "postgres").query("SELECT last_value + 1 FROM calls"))
+		if got := p.query(text); !fails(got) {
+			t.Errorf("%s: %s", text, show(got))
+		}
+		if after := show(direct(t, "postgres").query("SELECT last_value + 0 FROM calls")); after != before {
+			t.Errorf("%s: it ran more than once: %s, and not %s", text, after, before)
+		}
+	}
+}
+
+func fails(answers [][]byte) bool {
+	for _, one := range answers {
+		if one[0] == 'E' {
+			return true
+		}
+	}
+	return false
+}
