@@ -234,9 +234,8 @@ def all_runs(name, program, folder, script, replies):
     return demonstration_runs(program, folder, b"none 16\n", HONEST)
 
 
-HONEST = (b"fault none\ndesk 16\n"
-          + b"".join(b"collector %d submitted 11 taken 11\n" % each for each in range(4))
-          + b"last serial\nlatest serial\n")
+HONEST = (b"fault none\n" + b"".join(b"collector %d submitted 11 taken 11\n" % each
+                                     for each in range(4)) + b"last serial\nlatest serial\n")
 
 
 def main():

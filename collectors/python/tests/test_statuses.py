@@ -24,9 +24,8 @@ WRONG = b"""reply 3 pending, right
 reply 4 wrong: owed is ["ok"]
 wrong: replies 4 reports 1 spent 0 not-checked 0
 """
-HONEST = b"".join([b"fault none\ndesk 16\n",
-                   *(b"collector %d submitted 11 taken 11\n" % each for each in range(4)),
-                   b"last serial\nlatest serial\n"])
+HONEST = b"".join([b"fault none\n", *(b"collector %d submitted 11 taken 11\n" % each
+                                      for each in range(4)), b"last serial\nlatest serial\n"])
 # Input with which each program has something to write.
 WORK = {"cobra_audit": SCRIPT, "cobra_check": by_turns(SCRIPT, REPLIES),
         "cobra_demo": b"none 16\n"}
@@ -42,10 +41,9 @@ ROWS = [
     ("cobra_check", by_turns(SCRIPT, REPLIES.replace(b'["ok"]\n["report",2', b'[]\n["report",2')),
      3, WRONG, b""),
     ("cobra_demo", b"none 16\n", 0, HONEST, b""),
-    ("cobra_demo", b"none 1", 0, HONEST.replace(b"desk 16", b"desk 1"), b""),
-    ("cobra_demo", b"lost-update 1\n", 0,
-     HONEST.replace(b"none\ndesk 16", b"lost-update\ndesk 1").replace(b"serial", b"violated"),
-     b""),
+    ("cobra_demo", b"none 1", 0, HONEST, b""),
+    ("cobra_demo", b"lost-update 1\n", 0, HONEST.replace(b"none", b"lost-update").replace(
+        b"serial", b"violated"), b""),
     ("cobra_demo", b"", 2, b"", b"usage\n"),
     ("cobra_demo", b"none 0\n", 2, b"", b"usage\n"),
     ("cobra_demo", b"None 16\n", 2, b"", b"usage\n"),

@@ -10,12 +10,12 @@ FAULTS = ("none", "stale-read", "lost-update", "split-read", "session-back", "di
 PLACES = (1, 2, 3, 16, 1024)  # of the desk, which four collectors fill
 
 
-def shown(fault, places):
+def shown(fault):
     """What the demonstration has to print: everything submitted is taken, and the fault is
     found."""
     collectors = "".join(f"collector {at} submitted 11 taken 11\n" for at in range(4))
     kind = "serial" if fault == "none" else "violated"
-    return f"fault {fault}\ndesk {places}\n{collectors}last {kind}\nlatest {kind}\n".encode()
+    return f"fault {fault}\n{collectors}last {kind}\nlatest {kind}\n".encode()
 
 
 @unittest.skipUnless(path_of("cobra_demo"), "cobra_demo is not built")
@@ -29,7 +29,7 @@ class Demonstrations(unittest.TestCase):
                     ended = subprocess.run([path_of("cobra_demo")], input=line, timeout=SECONDS,
                                            stdout=subprocess.PIPE, stderr=subprocess.PIPE)
                     self.assertEqual((ended.returncode, ended.stdout, ended.stderr),
-                                     (0, shown(fault, places), b""))
+                                     (0, shown(fault), b""))
 
 
 if __name__ == "__main__":

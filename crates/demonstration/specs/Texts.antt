@@ -12,6 +12,6 @@ abbrev pub collector_lines : ℕ → List ℕ → List ℕ → List ℕ
 collector_lines collector (submitted ∷ more) (taken ∷ others) = collector_line collector submitted taken ++ collector_lines (collector + 1) more others
 collector_lines collector more others = []
 
--- the fault, how many places the desk has, how much each collector submitted and how much of it was taken, and the kinds of the last report and of the latest
+-- the fault, how much each collector submitted and how much of it was taken, and the kinds of the last report and of the latest
 abbrev pub demo_text : Shown → List ℕ
-demo_text shown = codes "fault " ++ (fault_name shown.fault ++ (codes "\ndesk " ++ (decimal shown.places ++ (codes "\n" ++ (collector_lines 0 shown.tally.submitted shown.tally.taken ++ (codes "last " ++ (kind_name shown.last ++ (codes "\nlatest " ++ (kind_name shown.latest ++ codes "\n")))))))))
+demo_text shown = codes "fault " ++ (fault_name shown.fault ++ (codes "\n" ++ (collector_lines 0 shown.tally.submitted shown.tally.taken ++ (codes "last " ++ (kind_name shown.last ++ (codes "\nlatest " ++ (kind_name shown.latest ++ codes "\n")))))))

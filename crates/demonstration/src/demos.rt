@@ -34,11 +34,11 @@ pub fn demo_run<R: Threads + Wait + Sync, W: ByteSink>(
     requires ring { (1 ≤ ring) × (ring ≤ 1024) }
 
     // What a run with this fault comes to is written.
-    ensures written { OnOk result ((shown : Shown) × (shown.fault ≡ fault) × (shown.places ≡ desk) × IsRun shown × Appends (W.contents sink.old) (W.contents sink.new) (demo_text shown)) }
+    ensures written { OnOk result ((shown : Shown) × (shown.fault ≡ fault) × IsRun shown × Appends (W.contents sink.old) (W.contents sink.new) (demo_text shown)) }
     ensures ok { OnOk result (W.faults sink.new ≡ W.faults sink.old) }
 
     // A proper front of it is written.
-    ensures front { IsErrOf result Failure.Device → ((shown : Shown) × (n : ℕ) × (shown.fault ≡ fault) × (shown.places ≡ desk) × IsRun shown × (n < length (demo_text shown)) × Appends (W.contents sink.old) (W.contents sink.new) (take n (demo_text shown))) }
+    ensures front { IsErrOf result Failure.Device → ((shown : Shown) × (n : ℕ) × (shown.fault ≡ fault) × IsRun shown × (n < length (demo_text shown)) × Appends (W.contents sink.old) (W.contents sink.new) (take n (demo_text shown))) }
     ensures failed { IsErrOf result Failure.Device → W.faults sink.new ≡ W.faults sink.old + 1 }
 
     ensures unwritten { IsErrOf result Failure.NoMemory → Keeps (W.contents sink.old) (W.contents sink.new) }
@@ -79,7 +79,7 @@ pub fn demo<R: Threads + Wait + Sync, S: ByteSource, W: ByteSink>(
     sink: &mut W,
 ) -> Result<(), DemoFailure>
     // The input asks for a run, and what that comes to is written.
-    ensures written { OnOk result ((shown : Shown) × IsRun shown × IfSome (S.remaining source.old) (λ input. (command : Command) × AsksFor input command × (shown.fault ≡ command.fault) × (shown.places ≡ command.capacity)) × Appends (W.contents sink.old) (W.contents sink.new) (demo_text shown)) }
+    ensures written { OnOk result ((shown : Shown) × IsRun shown × IfSome (S.remaining source.old) (λ input. (command : Command) × AsksFor input command × (shown.fault ≡ command.fault)) × Appends (W.contents sink.old) (W.contents sink.new) (demo_text shown)) }
 
     // The input asks for none.
     ensures usage { IsErrOf result DemoFailure.Usage → IfSome (S.remaining source.old) (λ input. (command : Command) → ¬ AsksFor input command) }
@@ -87,7 +87,7 @@ pub fn demo<R: Threads + Wait + Sync, S: ByteSource, W: ByteSink>(
 
     // Nothing is written where the source failed, and where the sink did a proper front of the text.
     ensures source_failed { S.faults source.old < S.faults source.new → Keeps (W.contents sink.old) (W.contents sink.new) }
-    ensures front { W.faults sink.old < W.faults sink.new → ((shown : Shown) × (n : ℕ) × IsRun shown × IfSome (S.remaining source.old) (λ input. (command : Command) × AsksFor input command × (shown.fault ≡ command.fault) × (shown.places ≡ command.capacity)) × (n < length (demo_text shown)) × Appends (W.contents sink.old) (W.contents sink.new) (take n (demo_text shown))) }
+    ensures front { W.faults sink.old < W.faults sink.new → ((shown : Shown) × (n : ℕ) × IsRun shown × IfSome (S.remaining source.old) (λ input. (command : Command) × AsksFor input command × (shown.fault ≡ command.fault)) × (n < length (demo_text shown)) × Appends (W.contents sink.old) (W.contents sink.new) (take n (demo_text shown))) }
     ensures no_memory { IsErrOf result DemoFailure.NoMemory → Keeps (W.contents sink.old) (W.contents sink.new) }
 
     // One of the devices failed, once, where that is the answer, and else none did.

@@ -102,7 +102,6 @@ fn outcome_of<R: Wait>(
     requires entries { returned.entries ≡ returned.reader.received }
     requires word { seat.old.word ≡ hall.latest }
     ensures fault { IfOk result (λ outcome. outcome.shown.fault ≡ fault) }
-    ensures places { IfOk result (λ outcome. outcome.shown.places ≡ hall.desk.1) }
     ensures run { IfOk result (λ outcome. IsRunOf outcome.store outcome.entries outcome.shown) }
     ensures latest { IfOk result (λ outcome. outcome.latest ≡ last_of (reports_in outcome.entries)) }
 {
@@ -124,12 +123,10 @@ fn outcome_of<R: Wait>(
         desk,
         latest: _,
     } = hall;
-    let places = desk.places();
     let tally = desk.tally(rt, passes, side.pass);
     let store = store_of(store, fault, &done)?;
     let shown = Shown {
         fault,
-        places,
         tally,
         last,
         latest: kind_of(latest),
@@ -155,7 +152,6 @@ pub fn run<R: Threads + Wait + Sync, S: Solver + Sync>(
     requires desk { (1 ≤ desk_capacity) × (desk_capacity ≤ 1024) }
     requires ring { (1 ≤ ring_capacity) × (ring_capacity ≤ 1024) }
     ensures fault { IfOk result (λ outcome. outcome.shown.fault ≡ fault) }
-    ensures places { IfOk result (λ outcome. outcome.shown.places ≡ desk_capacity) }
     ensures run { IfOk result (λ outcome. IsRunOf outcome.store outcome.entries outcome.shown) }
     ensures latest { IfOk result (λ outcome. outcome.latest ≡ last_of (reports_in outcome.entries)) }
 {

@@ -8,12 +8,11 @@ use order_check::Kind;
 use std::alloc::Global;
 use txn::NoMemory;
 
-/// What a run has shown: its fault, how many places its desk had, how many parcels of each collector were submitted and taken, the kind of the last report that was
+/// What a run has shown: its fault, how many parcels of each collector were submitted and taken, the kind of the last report that was
 /// read, and the one that the word told after it.
 #[derive(Clone, Copy, Debug, PartialEq, Eq)]
 pub struct Shown {
     pub fault: Fault,
-    pub places: usize,
     pub tally: Tally,
     pub last: Option<Kind>,
     pub latest: Option<Kind>,
@@ -47,9 +46,8 @@ pub fn text_of(alloc: Global, shown: &Shown) -> Result<String, NoMemory>
     ensures { IfOk result (λ text. string_bytes text ≡ demo_text shown.now) }
 {
     let fault = fault_name(shown.fault);
-    let places = shown.places;
     let lines = collector_lines(alloc, &shown.tally)?;
     let last = kind_name(shown.last);
     let latest = kind_name(shown.latest);
-    format!(in alloc; "fault {fault}\ndesk {places}\n{lines}last {last}\nlatest {latest}\n")
+    format!(in alloc; "fault {fault}\n{lines}last {last}\nlatest {latest}\n")
 }

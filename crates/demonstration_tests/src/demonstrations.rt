@@ -17,15 +17,14 @@ use std::test::*;
 use std::thread::Threads;
 use txn::NoMemory;
 
-/// What is shown of a run with the fault, over a desk with so many places.
-fn wanted(fault: Fault, places: usize) -> Shown {
+/// What is shown of a run with the fault.
+fn wanted(fault: Fault) -> Shown {
     let kind = match fault {
         Fault::None => Kind::Serial,
         _ => Kind::Violated,
     };
     Shown {
         fault,
-        places,
         tally: Tally {
             submitted: [11; 4],
             taken: [11; 4],
@@ -52,10 +51,9 @@ fn judge_outcome(
     rt: &impl Abort,
     alloc: Global,
     fault: Fault,
-    desk: usize,
     outcome: &Outcome,
 ) -> Result<(), NoMemory> {
-    assert_eq!(rt; outcome.shown, wanted(fault, desk));
+    assert_eq!(rt; outcome.shown, wanted(fault));
     let executed = outcome.store.log();
     assert_eq!(rt; executed.len(), 36);
     let told = judge(rt, alloc, executed, outcome.entries.as_slice())?;
@@ -76,7 +74,7 @@ fn judge_run<R: Threads + Wait + Sync + Abort>(
     requires ring { (1 ≤ ring) × (ring ≤ 1024) }
 {
     let outcome = run(rt, alloc, &Single, fault, desk, ring)?;
-    judge_outcome(rt, alloc, fault, desk, &outcome)
+    judge_outcome(rt, alloc, fault, &outcome)
 }
 
 /// The faults of a store.
@@ -114,17 +112,13 @@ fn sink(alloc: Global) -> MemorySink {
     }
 }
 
-/// What an honest store's run writes, over a desk with one place.
+/// What an honest store's run writes.
 const HONEST: &str =
-    "fault none\ndesk 1\ncollector 0 submitted 11 taken 11\ncollector 1 submitted 11 taken 11\ncollector 2 submitted 11 taken 11\ncollector 3 submitted 11 taken 11\nlast serial\nlatest serial\n";
+    "fault none\ncollector 0 submitted 11 taken 11\ncollector 1 submitted 11 taken 11\ncollector 2 submitted 11 taken 11\ncollector 3 submitted 11 taken 11\nlast serial\nlatest serial\n";
 
-/// What it writes over a desk with 1,024 places.
-const WIDE: &str =
-    "fault none\ndesk 1024\ncollector 0 submitted 11 taken 11\ncollector 1 submitted 11 taken 11\ncollector 2 submitted 11 taken 11\ncollector 3 submitted 11 taken 11\nlast serial\nlatest serial\n";
-
-/// What a run with a lost update writes, over a desk with one place.
+/// What a run with a lost update writes.
 const LOST: &str =
-    "fault lost-update\ndesk 1\ncollector 0 submitted 11 taken 11\ncollector 1 submitted 11 taken 11\ncollector 2 submitted 11 taken 11\ncollector 3 submitted 11 taken 11\nlast violated\nlatest violated\n";
+    "fault lost-update\ncollector 0 submitted 11 taken 11\ncollector 1 submitted 11 taken 11\ncollector 2 submitted 11 taken 11\ncollector 3 submitted 11 taken 11\nlast violated\nlatest violated\n";
 
 /// What becomes of a command, and what is then written.
 fn told<R: Threads + Wait + Sync>(
@@ -192,9 +186,13 @@ fn first_runs(rt: HostRuntime) -> Result<(), Fail> {
 #[test]
 fn a_line_asks_for_a_run_or_for_none(rt: HostRuntime) -> Result<(), Fail> {
     assert_told(&rt, rt.alloc(), "none 1", HONEST);
-    assert_told(&rt, rt.alloc(), "none 1\nwhat follows isn't read", HONEST);
-    assert_told(&rt, rt.alloc(), "lost-update 1\n", LOST);
-    assert_told(&rt, rt.alloc(), "none 1024", WIDE);
+    assert_told(
+        &rt,
+        rt.alloc(),
+        "none 1024\nwhat follows isn't read",
+        HONEST,
+    );
+    assert_told(&rt, rt.alloc(), "lost-update 16\n", LOST);
     for line in NO_COMMANDS {
         let mut sink = sink(rt.alloc());
         let answer = told(&rt, rt.alloc(), line.as_bytes(), &mut sink);

@@ -102,13 +102,6 @@ impl Desk {
         Ok((Desk { line }, collectors, auditor))
     }
 
-    /// How many places it has.
-    pub fn places(&self) -> usize
-        ensures { result ≡ self.now.1 }
-    {
-        self.line.capacity()
-    }
-
     /// Submits the item as its collector's next parcel. Where the queue is full the item comes back, and the pass is as it was.
     pub fn submit<R: Wait>(&self, rt: &R, pass: &mut CollectorPass, item: Item) -> Result<(), Item>
         requires desk { pass.old.0 ≡ self.now.0 }
