@@ -113,7 +113,7 @@ func TestDistinctByAnyPlan(t *testing.T) {
 		r := rand.New(rand.NewSource(int64(seed)))
 		text := distinctOrGrouped(r)
 		p, tokens := cache.Plan(text)
-		if p.Hidden() == 0 || len(p.Unseen) > 0 {
+		if why := reasons(p); p.Hidden() == 0 || why != "" && why != "a join that the server may skip" {
 			t.Fatalf("statement %d isn't seen: %s: %q", seed, text, reasons(p))
 		}
 		rewritten, _, _ := p.Rewrite(text, tokens)
