@@ -127,5 +127,19 @@ const ColumnsSQL = `(SELECT pg_catalog.encode(pg_catalog.sha256(pg_catalog.conve
     ';' ORDER BY ca.attnum)), pg_catalog.getdatabaseencoding())), 'hex') FROM pg_catalog.pg_attribute ca
   WHERE ca.attrelid OPERATOR(pg_catalog.=) c.oid AND ca.attnum OPERATOR(pg_catalog.>) 0)`
 
+// MadeSQL is a text that changes with what somebody has made by the names that conditions use: operators, implicit casts,
+// functions that make ranges.
+const MadeSQL = `pg_catalog.concat_ws(' ',
+  (SELECT pg_catalog.concat_ws(',', pg_catalog.count(*), pg_catalog.sum(mo.xmin::pg_catalog.text::pg_catalog.int8))
+   FROM pg_catalog.pg_operator mo WHERE mo.oid OPERATOR(pg_catalog.>=) 16384::pg_catalog.oid AND mo.oprname OPERATOR(pg_catalog.=)
+     ANY ('{=,<>,<,<=,>,>=,~~,!~~,&&,@>,<@}'::pg_catalog.name[])),
+  (SELECT pg_catalog.concat_ws(',', pg_catalog.count(*), pg_catalog.sum(mc.xmin::pg_catalog.text::pg_catalog.int8))
+   FROM pg_catalog.pg_cast mc WHERE mc.oid OPERATOR(pg_catalog.>=) 16384::pg_catalog.oid AND mc.castcontext OPERATOR(pg_catalog.=) 'i'),
+  (SELECT pg_catalog.concat_ws(',', pg_catalog.count(*), pg_catalog.sum(mp.xmin::pg_catalog.text::pg_catalog.int8))
+   FROM pg_catalog.pg_proc mp WHERE mp.oid OPERATOR(pg_catalog.>=) 16384::pg_catalog.oid AND mp.proname OPERATOR(pg_catalog.=)
+     ANY ('{int4range,int8range,numrange,tsrange,tstzrange,daterange}'::pg_catalog.name[])))`
+
+var madeSQL = own.SQL(`SELECT ` + MadeSQL)
+
 var allColumnsSQL = own.SQL(`SELECT c.oid::pg_catalog.text, ` + ColumnsSQL + ` FROM pg_catalog.pg_class c
 WHERE c.relkind IN ('r', 'p') AND c.relpersistence = 'p' AND c.oid >= 16384`)

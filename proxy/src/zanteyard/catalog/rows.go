@@ -119,8 +119,15 @@ func (c *Catalog) loadColumns(query Query) error {
 	if c.columns == nil {
 		return nil
 	}
-	rows, err := query(allColumnsSQL)
+	rows, err := query(madeSQL)
+	if err == nil && len(rows) != 1 {
+		err = fmt.Errorf("%d rows", len(rows))
+	}
 	if err != nil {
+		return fmt.Errorf("reading what was made: %w", err)
+	}
+	made := rows[0][0]
+	if rows, err = query(allColumnsSQL); err != nil {
 		return fmt.Errorf("reading the identities of columns: %w", err)
 	}
 	for _, row := range rows {
@@ -131,10 +138,14 @@ func (c *Catalog) loadColumns(query Query) error {
 		if err != nil {
 			return err
 		}
-		c.columns[oid] = IdentityOf(row[1])
+		c.columns[oid] = ColumnsIdentity(IdentityOf(row[1]), IdentityOf(made))
 	}
 	return nil
 }
+
+// ColumnsIdentity makes the identity of a table's columns, by which conditions are asked, of what they mean (ColumnsSQL)
+// and what the names of operators and the like mean (MadeSQL).
+func ColumnsIdentity(columns, made record.Identity) record.Identity { return (columns ^ made) | 1 }
 
 func (c *Catalog) takeColumn(known types, row []string) error {
 	if err := width(row, 4); err != nil {

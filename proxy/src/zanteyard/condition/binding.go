@@ -13,9 +13,11 @@ import (
 
 // Arguments are what a statement has in the places of its form's constants and parameters.
 type Arguments struct {
-	// Constants are the texts of the tokens at Form.Constants. If constants that follow in a list were left out of the
-	// text that the form was made from, they are in it, too: `1, 2, 3`. Nil stands for those of that text.
+	// Constants are the texts of the tokens at Form.Constants. If constants and parameters that follow in a list were left
+	// out of the text that the form was made from, they are in it, too: `1, $2, 3`. Nil stands for those of that text.
 	Constants []string
+	// Left is how many parameters were left out of that text, in these and in other lists.
+	Left int
 	// Parameters are those of Bind, nil for NULL. Formats has none, one for all, or one each (0 text, 1 binary). Types are
 	// those that the client declared in Parse, none or 0 if the server determines the type.
 	Parameters [][]byte
@@ -25,6 +27,8 @@ type Arguments struct {
 	Outer []string
 	// Escapes says that standard_conforming_strings is off: a backslash in a constant has another meaning.
 	Escapes bool
+	// Temporary says that the connection has temporary objects: a type among them comes before the server's own.
+	Temporary bool
 	// Converts says that the client's encoding isn't the server's: texts beyond ASCII aren't those of the log.
 	Converts bool
 }
@@ -55,6 +59,9 @@ func (f *Form) Bind(with Arguments) (*Condition, error) {
 	if err != nil {
 		return nil, err
 	}
+	if len(b.inferred) > 0 && with.Left > b.left { // another list may decide their types
+		return nil, severalPlaces
+	}
 	made := &Condition{table: f.Table, root: its.clause}
 	made.key = strconv.FormatUint(uint64(f.Table.OID), 10) + " " + its.key
 	if len(made.key) > sha256.Size {
@@ -79,6 +86,7 @@ type binder struct {
 	with     Arguments
 	bytes    int
 	count    int            // of values
+	left     int            // parameters that were left out of the form's text, and that it has
 	inferred map[int]uint32 // the types of parameters for which the server determines them
 }
 
@@ -120,9 +128,8 @@ func (b *binder) values(of operand) ([]value, error) {
 		its, err := b.rangeMade(of)
 		return []value{its}, err
 	}
-	if of.parameter > 0 {
-		its, err := b.parameter(of.parameter, of.cast)
-		return []value{its}, err
+	if of.bare && b.with.Temporary {
+		return nil, castElsewhere
 	}
 	if of.outer > 0 {
 		its, err := b.outer(of)
@@ -143,6 +150,9 @@ func (b *binder) values(of operand) ([]value, error) {
 	}
 	all := make([]value, len(literals))
 	for i, one := range literals {
+		if i > 0 && one.kind == parameterLiteral {
+			b.left++
+		}
 		var err error
 		if all[i], err = b.literal(one, of.cast); err != nil {
 			return nil, err
@@ -325,11 +335,11 @@ func (b *binder) rangeMade(of operand) (value, error) {
 	element := elementOf(of.cast)
 	ends := [2]bound{}
 	brackets := "[)"
-	for i, arg := range of.made {
-		its, err := b.one(arg)
-		if err != nil {
-			return value{}, err
-		}
+	args, err := b.boundsOf(of.made)
+	if err != nil {
+		return value{}, err
+	}
+	for i, its := range args {
 		if i == 2 {
 			if its.null || its.typ != 0 && !isText(its.typ) || its.parameter > 0 {
 				return value{}, otherTypes
@@ -357,6 +367,22 @@ func (b *binder) rangeMade(of operand) (value, error) {
 		return value{}, unknownValue
 	}
 	return value{typ: of.cast, made: true, r: its}, nil
+}
+
+// boundsOf returns what a range is made of. If it is one operand, it stands for those that were left out of the text.
+func (b *binder) boundsOf(made []operand) ([]value, error) {
+	var all []value
+	for _, arg := range made {
+		its, err := b.values(arg)
+		if err != nil {
+			return nil, err
+		}
+		all = append(all, its...)
+	}
+	if len(all) != 2 && len(all) != 3 {
+		return nil, manyConstants
+	}
+	return all, nil
 }
 
 // column is a column as it is read for a family.

@@ -227,7 +227,7 @@ func (r *reader) numbers(is symbol, left, right any) (expression, error) {
 	if err != nil {
 		return nil, err
 	}
-	if one.constant == 0 || other.constant == 0 {
+	if one.constant == 0 || other.constant == 0 || one.parameter != 0 || other.parameter != 0 {
 		return nil, noColumn
 	}
 	whole := &catalog.Column{Type: keys.Int4, Meaning: catalog.Meaning{Declared: keys.Int4, Base: keys.Int4}}

@@ -10,8 +10,8 @@ type Form struct {
 	Table *catalog.Table
 	// Name is the one by which the statement knows the table.
 	Name string
-	// Constants are the places of the constants in the text that the parse tree was made from, in bytes: where the token
-	// begins, which is a minus for a negative number.
+	// Constants are the places of the constants and parameters in the text that the parse tree was made from, in bytes:
+	// where the token begins, which is a minus for a negative number.
 	Constants []int
 
 	// Given says that the condition is asked beside the other tables' rows of each row of the result, and Outer names the

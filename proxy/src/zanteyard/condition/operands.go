@@ -1,14 +1,19 @@
 package condition
 
-import "zanteyard/keys"
+import (
+	"strconv"
+
+	"zanteyard/keys"
+)
 
 // operand is a value in a form: a constant or a parameter, perhaps cast to a type, or a range made of two.
 type operand struct {
-	constant  int    // its place among the form's, from 1; 0 for others
-	parameter int    // from 1; 0 for others
+	constant  int    // its place among the form's, from 1, of a constant or a parameter; 0 for others
+	parameter int    // its number, from 1; 0 for others
 	outer     int    // its place among the form's columns of other tables, from 1; 0 for others
 	cast      uint32 // the type that it is cast to, or 0
 	array     bool   // it is an array, and cast the type of its elements
+	bare      bool   // the cast names its type without a schema
 	listed    bool   // it is one of a list, and stands for those that were left out of the text, too
 	ofArray   bool   // it is an element of ARRAY[..]
 	made      []operand
@@ -27,16 +32,15 @@ func (r *reader) operand(value any) (operand, error) {
 		if err != nil {
 			return operand{}, err
 		}
-		r.form.literals = append(r.form.literals, its)
-		r.form.Constants = append(r.form.Constants, body.number("location"))
-		return operand{constant: len(r.form.literals)}, nil
+		return operand{constant: r.form.token(its, body)}, nil
 	case "ParamRef":
 		number := body.number("number")
 		if number < 1 {
 			return operand{}, unknownForm
 		}
 		r.form.elsewhere[number]--
-		return operand{parameter: number}, nil
+		its := literal{kind: parameterLiteral, text: strconv.Itoa(number)}
+		return operand{constant: r.form.token(its, body), parameter: number}, nil
 	case "TypeCast":
 		its, err := r.operand(body["arg"])
 		if err != nil {
@@ -45,7 +49,7 @@ func (r *reader) operand(value any) (operand, error) {
 		if its.cast != 0 {
 			return operand{}, aCast
 		}
-		its.cast, its.array, err = r.castType(body.tree("typeName"))
+		its.cast, its.array, its.bare, err = r.castType(body.tree("typeName"))
 		return its, err
 	case "FuncCall":
 		return r.rangeMade(body)
@@ -58,6 +62,13 @@ func (r *reader) operand(value any) (operand, error) {
 	}
 }
 
+// token adds the place of a constant or a parameter, and returns the place's own number, from 1.
+func (f *Form) token(its literal, body tree) int {
+	f.literals = append(f.literals, its)
+	f.Constants = append(f.Constants, body.number("location"))
+	return len(f.literals)
+}
+
 var rangeTypes = map[string]uint32{
 	"int4range": int4Range, "int8range": int8Range, "numrange": numRange, "tsrange": tsRange, "tstzrange": tstzRange,
 	"daterange": dateRange,
@@ -67,7 +78,7 @@ var rangeTypes = map[string]uint32{
 func (r *reader) rangeMade(body tree) (operand, error) {
 	names := body.names("funcname")
 	args := body.list("args")
-	if len(names) == 0 || rangeTypes[names[len(names)-1]] == 0 || len(args) != 2 && len(args) != 3 {
+	if len(names) == 0 || rangeTypes[names[len(names)-1]] == 0 || len(args) < 1 || len(args) > 3 {
 		return operand{}, refusalOf("FuncCall", body)
 	}
 	for _, field := range []string{"agg_order", "agg_filter", "over", "agg_within_group", "agg_star", "agg_distinct", "func_variadic"} {
@@ -90,20 +101,23 @@ func (r *reader) rangeMade(body tree) (operand, error) {
 		}
 		its.made = append(its.made, one)
 	}
+	if its.made[0].listed = len(args) == 1; its.made[0].listed && its.made[0].cast != 0 {
+		return operand{}, aFunction
+	}
 	return its, nil
 }
 
 // elements reads an array: ARRAY[..], a constant or a parameter.
 func (r *reader) elements(value any) ([]operand, error) {
-	cast := uint32(0)
+	cast, bare := uint32(0), false
 	kind, body := open(value)
 	if kind == "TypeCast" {
 		if inner, list := open(body["arg"]); inner == "A_ArrayExpr" {
-			its, array, err := r.castType(body.tree("typeName"))
+			its, array, isBare, err := r.castType(body.tree("typeName"))
 			if err != nil || !array {
 				return nil, aCast
 			}
-			cast, kind, body = its, inner, list
+			cast, bare, kind, body = its, isBare, inner, list
 		}
 	}
 	switch kind {
@@ -119,7 +133,7 @@ func (r *reader) elements(value any) ([]operand, error) {
 			}
 			one.listed, one.ofArray = one.cast == 0, true
 			if cast != 0 {
-				one.cast = cast
+				one.cast, one.bare = cast, bare
 			}
 			all = append(all, one)
 		}
@@ -144,22 +158,23 @@ func (r *reader) elements(value any) ([]operand, error) {
 	return []operand{one}, nil
 }
 
-// castType returns the type of a cast to one of the server's own types, without a length, or to an array of it.
-func (r *reader) castType(name tree) (typ uint32, array bool, err error) {
+// castType returns the type of a cast to one of the server's own types, without a length, or to an array of it. bare
+// says that the type's schema isn't named.
+func (r *reader) castType(name tree) (typ uint32, array, bare bool, err error) {
 	if name.has("typmods") || name.flag("setof") || name.flag("pct_type") || len(name.list("arrayBounds")) > 1 {
-		return 0, false, aCast
+		return 0, false, false, aCast
 	}
 	names := name.names("names")
 	if len(names) == 2 && names[0] == "pg_catalog" {
 		names = names[1:]
 	} else if len(names) != 1 || r.form.catalog.TypeElsewhere(names[0]) {
-		return 0, false, castElsewhere
+		return 0, false, false, castElsewhere
 	}
 	typ, ok := typeNames[names[0]]
 	if !ok {
-		return 0, false, aCast
+		return 0, false, false, aCast
 	}
-	return typ, len(name.list("arrayBounds")) == 1, nil
+	return typ, len(name.list("arrayBounds")) == 1, len(name.names("names")) == 1, nil
 }
 
 var typeNames = map[string]uint32{

@@ -62,7 +62,8 @@ type conditions struct {
 	valueBytes int
 	gap        uint64 // the last commit in which a change of some row of an unknown table is missing
 	shown      []shownAt
-	dropped    uint64 // conditions, to make room
+	dropped    uint64    // conditions, to make room
+	remade     time.Time // when operators and the like were last seen to have been made or dropped; zero if never
 }
 
 // tableAsks are the conditions by which rows of one table were asked for.
@@ -193,11 +194,16 @@ func (q *conditions) forgetTable(relation record.Relation, at uint64) {
 	if its == nil {
 		return
 	}
-	for one := range its.all {
+	q.forgetAll(relation)
+	its.fresh, its.gap = nil, at
+}
+
+// forgetAll drops all conditions of a table: what was asked by them isn't known any more.
+func (q *conditions) forgetAll(relation record.Relation) {
+	for one := range q.of[relation].all {
 		one.gone = true
 		q.drop(one)
 	}
-	its.fresh, its.gap = nil, at
 }
 
 // forget drops conditions that nobody has asked by since the last moment but one. What ran beside them is on this side

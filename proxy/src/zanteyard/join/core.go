@@ -438,6 +438,15 @@ func (c *core) forgetTables(its map[record.Relation]bool) {
 	}
 }
 
+// forgetMeanings drops all conditions, since an operator or the like may mean something else from now on, or may have
+// meant it.
+func (c *core) forgetMeanings() {
+	c.questions.remade = c.now
+	for relation := range c.questions.of {
+		c.questions.forgetAll(relation)
+	}
+}
+
 // forget drops versions that were overwritten long ago, which nobody is expected to read any more.
 func (c *core) forget() {
 	before := c.now.Sub(c.began) - c.opt.Stale

@@ -64,6 +64,9 @@ func (g *gate) verify(place Place, to *core) {
 		g.names = place.Names
 	}
 	to.forgetTables(forgotten)
+	if place.Remade {
+		to.forgetMeanings()
+	}
 	if shows, ok := snapshotOf(place.Shows); ok && !place.Unsure && place.At >= g.verified {
 		g.verified, g.used, g.shows = place.At, place.Used, shows
 	}

@@ -35,6 +35,8 @@ type Place struct {
 	Names   uint64
 	// Rewritten has those whose definitions have been written since, though their names and keys are the same.
 	Rewritten []Rewritten
+	// Remade means that operators, casts or functions have been made or dropped by names that conditions use.
+	Remade bool
 	// Used is how many tables were looked at (record.Commit). Unsure: names may have changed once more since.
 	Used   uint64
 	Unsure bool

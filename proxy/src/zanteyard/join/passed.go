@@ -165,10 +165,10 @@ func (c *core) resolveAsks(e *entry, to *resolution) bool {
 		case q == nil:
 			to.loseAsk(i, askUnknown)
 			continue
-		case q.gone || !c.sameTable(&e.its.Asks[i]):
+		case q.gone || !c.sameTable(&e.its.Asks[i]) || c.mayHaveChanged(q, e):
 			to.loseAsk(i, askChanged)
 			continue
-		case e.its.Asks[i].Wrote && (e.late != "" || e.its.Number == 0 && e.its.MayHaveWritten):
+		case e.hidesOwn(&e.its.Asks[i]):
 			to.loseAsk(i, askOwnUnknown)
 			continue
 		}
@@ -190,6 +190,18 @@ func (c *core) resolveAsks(e *entry, to *resolution) bool {
 		}
 	}
 	return true
+}
+
+// mayHaveChanged reports whether the transaction may have begun before it was seen that a condition may have meant
+// something else, or that some rows were hidden.
+func (c *core) mayHaveChanged(q *question, e *entry) bool {
+	began, _ := span(&e.its)
+	return c.isFromBefore(q.relation, &e.its) || !began.After(c.questions.remade)
+}
+
+// hidesOwn reports whether the statement may have seen a version of its own transaction's that isn't known as one.
+func (e *entry) hidesOwn(one *record.Ask) bool {
+	return one.Wrote && (e.late != "" || e.its.Number == 0 && e.its.MayHaveWritten)
 }
 
 // askAt is what source.at counts the questions from.
@@ -366,7 +378,7 @@ func (c *core) deduceFrom(e *entry) {
 		return
 	}
 	for i, q := range e.asks {
-		if q == nil || q.gone {
+		if q == nil || q.gone || c.mayHaveChanged(q, e) || e.hidesOwn(&e.its.Asks[i]) {
 			continue
 		}
 		it := c.openAsk(e, i)

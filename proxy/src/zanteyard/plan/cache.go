@@ -147,7 +147,9 @@ func (c *Cache) lookUp(state *cached, text string) (*Plan, Tokens) {
 	if p == state.unknown {
 		return p, Tokens{at: nowhere}
 	}
-	return c.locate(state, p, text, s.tokens)
+	p, tokens := c.locate(state, p, text, s.tokens)
+	tokens.left = s.left
+	return p, tokens
 }
 
 // find returns a text's plan, and its tokens in the scanner.

@@ -6,6 +6,7 @@ import (
 	"strconv"
 
 	"zanteyard/condition"
+	"zanteyard/keys"
 	"zanteyard/record"
 )
 
@@ -105,6 +106,7 @@ func (p *Plan) Asks(text string, tokens Tokens, with condition.Arguments) (Quest
 	for i := range f.constants {
 		with.Constants[i] = text[tokens.follow[i].from:tokens.follow[i].to]
 	}
+	with.Left = tokens.left
 	q := Question{Identity: p.Sources[0].Identity, Columns: f.columns, Most: math.MaxUint64}
 	if f.limited {
 		at := span{}
@@ -122,7 +124,8 @@ func (p *Plan) Asks(text string, tokens Tokens, with condition.Arguments) (Quest
 	return q, err
 }
 
-// rows returns the number of rows that LIMIT allows.
+// rows returns the number of rows that LIMIT allows. In binary a number is read only if the client has declared that it is
+// a whole one: the server takes others, too.
 func (a askedPart) rows(text string, at span, with condition.Arguments) (uint64, bool) {
 	if a.parameter > 0 && a.parameter <= len(with.Parameters) && with.Parameters[a.parameter-1] == nil {
 		return math.MaxUint64, true
@@ -132,6 +135,9 @@ func (a askedPart) rows(text string, at span, with condition.Arguments) (uint64,
 		return 0, false
 	}
 	if isBinary {
+		if i := a.parameter - 1; i >= len(with.Types) || keys.Family(with.Types[i]) != keys.Int8 {
+			return 0, false
+		}
 		switch len(value) {
 		case 2:
 			return uint64(binary.BigEndian.Uint16(value)), true

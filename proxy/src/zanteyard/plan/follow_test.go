@@ -15,7 +15,7 @@ import (
 
 // TestFollowed: what each SELECT asks for, from the constants of its own text, though its plan was made for another one.
 func TestFollowed(t *testing.T) {
-	connection := connect(t, fmt.Sprint("followed_", time.Now().UnixNano()), `CREATE TABLE r (id int PRIMARY KEY, a int, b text COLLATE "C", free bool);
+	connection := connect(t, fmt.Sprint("followed_", time.Now().UnixNano()), `CREATE TABLE r (id int PRIMARY KEY, a int, b text COLLATE "C", free bool, during int4range);
 		CREATE TABLE other (id int PRIMARY KEY, a int); CREATE TABLE hidden (a int);
 		CREATE TABLE secret (id int PRIMARY KEY, a int); ALTER TABLE secret ENABLE ROW LEVEL SECURITY`)
 	known, err := catalog.Load(ctx(), cluster.Query(context.Background(), connection), catalog.WithColumns)
@@ -39,6 +39,13 @@ func TestFollowed(t *testing.T) {
 		{"SELECT * FROM r WHERE a = 1", "SELECT id FROM r WHERE a=5 -- no more", "r WHERE a = 5"},
 		{"SELECT * FROM r WHERE a IN (1, 2)", "SELECT * FROM r WHERE a IN (-3, 4 , 5)", "r WHERE a IN (-3, 4, 5)"},
 		{"SELECT * FROM r WHERE a IN (1)", "SELECT * FROM r WHERE a IN (1, NULL)", "r WHERE a IN (1, NULL)"},
+		{"", "SELECT * FROM r WHERE a IN ($1, $2)", "r WHERE a IN (11, 12)"},
+		{"SELECT * FROM r WHERE a IN ($1)", "SELECT * FROM r WHERE a IN ($1, $2)", "r WHERE a IN (11, 12)"},
+		{"SELECT * FROM r WHERE a IN (1)", "SELECT * FROM r WHERE a IN (1, $2)", "r WHERE a IN (1, 12)"},
+		{"SELECT * FROM r WHERE during && int4range(1, 2)", "SELECT * FROM r WHERE during && int4range(3, 5, '[]')", "r WHERE during && '[3,6)'"},
+		{"", "SELECT * FROM r WHERE during && int4range($1, $2)", "r WHERE during && '[11,12)'"},
+		{"", "SELECT * FROM r WHERE during && int4range(0, $1::int)", "a function"},
+		{"", "SELECT * FROM r WHERE during && int4range(1)", "a constant in an unknown form"},
 		{"SELECT * FROM r WHERE b = 'x'", "SELECT * FROM r WHERE b = 'it''s'", "r WHERE b = 'it''s'"},
 		{"SELECT * FROM r WHERE b = 'x'", `SELECT * FROM r WHERE b = U&'\0061'`, "a constant in an unknown form"},
 		{"SELECT * FROM r WHERE b = 'x'", "SELECT * FROM r WHERE b = X'1F'", "a constant in an unknown form"},
@@ -91,6 +98,59 @@ func TestFollowed(t *testing.T) {
 	for _, text := range []string{"SELECT * FROM r WHERE a = 1", "SELECT * FROM r OFFSET 1"} {
 		if p, _ := cache.Plan(text); p.Follows() || p.NotFollowed != "" {
 			t.Errorf("%s: %+v", text, p)
+		}
+	}
+}
+
+// TestFollowedParameters: a parameter has the type that the server gives it, or the condition isn't followed: also if the
+// place that decides it is in a list of which the plan has only the first.
+func TestFollowedParameters(t *testing.T) {
+	connection := connect(t, fmt.Sprint("parameters_", time.Now().UnixNano()), "CREATE TABLE r (id int PRIMARY KEY, a int, ts timestamp)")
+	known, err := catalog.Load(ctx(), cluster.Query(context.Background(), connection), catalog.WithColumns)
+	if err != nil {
+		t.Fatal(err)
+	}
+	cache := NewCache(known)
+	two := []byte{0, 0, 0, 0, 0, 0, 0, 2}
+	const ts, several = "2024-01-01 10:00:00", "a parameter without a type, which may get it in several places"
+	for _, x := range []struct {
+		text   string
+		values []string
+		binary bool
+		types  []uint32
+		want   string
+	}{
+		{text: "SELECT id FROM r LIMIT $1", values: []string{"2"}, want: "r, most 2"},
+		{text: "SELECT id FROM r LIMIT $1", values: []string{string(two)}, binary: true, types: []uint32{20}, want: "r, most 2"},
+		{text: "SELECT id FROM r LIMIT $1", values: []string{string(two[4:])}, binary: true, types: []uint32{23}, want: "r, most 2"},
+		{text: "SELECT id FROM r LIMIT $1", values: []string{string(two)}, binary: true, types: []uint32{701}, want: unclearLimit},
+		{text: "SELECT id FROM r LIMIT $1", values: []string{string(two)}, binary: true, want: unclearLimit},
+		{text: "SELECT id FROM r WHERE ts = $1", values: []string{ts}, want: "r WHERE ts = '" + ts + "'"},
+		{text: "SELECT id, greatest($1, $2, now()) FROM r WHERE ts = $2", values: []string{ts, ts}, want: several},
+		{text: "SELECT id, greatest($1, $2, now()) FROM r WHERE ts = $1", values: []string{ts, ts}, want: several},
+		{text: "SELECT id, greatest($1, $2, now()) FROM r WHERE ts = $2", values: []string{ts, ts}, types: []uint32{1114, 1114},
+			want: "r WHERE ts = '" + ts + "'"},
+		{text: "SELECT id FROM r WHERE a IN (1, $1, $2) AND id IN ($3, $4)", values: []string{"2", "3", "4", "5"},
+			want: "r WHERE a IN (1, 2, 3) AND id IN (4, 5)"},
+	} {
+		with := condition.Arguments{Types: x.types}
+		for _, one := range x.values {
+			with.Parameters = append(with.Parameters, []byte(one))
+		}
+		if x.binary {
+			with.Formats = []int16{1}
+		}
+		p, tokens := cache.Plan(x.text)
+		got := p.NotFollowed
+		if p.Follows() {
+			if q, err := p.Asks(x.text, tokens, with); err != nil {
+				got = err.Error()
+			} else if got = q.By.String(); q.Most != math.MaxUint64 {
+				got += fmt.Sprint(", most ", q.Most)
+			}
+		}
+		if got != x.want {
+			t.Errorf("%s with %q: %q, wanted %q", x.text, x.values, got, x.want)
 		}
 	}
 }

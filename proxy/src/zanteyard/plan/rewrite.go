@@ -15,6 +15,7 @@ type Tokens struct {
 	at        int // nowhere if nothing is inserted
 	constants [maxAsked + 1]span
 	follow    []span
+	left      int // how many parameters lists were left without
 	parts     []Part
 }
 

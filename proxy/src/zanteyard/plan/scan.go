@@ -43,6 +43,7 @@ type scanner struct {
 	depth  int
 	apart  bool // lists aren't collapsed
 	popped bool // one was
+	left   int  // how many parameters were left out with them
 }
 
 // Classes of bytes.
@@ -76,7 +77,7 @@ var classes = func() (table [256]uint8) {
 // be planned.
 func (s *scanner) scan(text string) bool {
 	s.text, s.tokens, s.key = text, s.tokens[:0], s.key[:0]
-	s.list, s.values, s.depth, s.popped = noList, valuesState{}, 0, false
+	s.list, s.values, s.depth, s.popped, s.left = noList, valuesState{}, 0, false, 0
 	if len(text) > maxText {
 		return false
 	}
@@ -319,6 +320,11 @@ func (s *scanner) push(start, end int, kind tokenKind) bool {
 func (s *scanner) pop(count int) {
 	s.popped = true
 	keep := len(s.tokens) - count
+	for _, gone := range s.tokens[keep:] {
+		if gone.kind == parameterToken {
+			s.left++
+		}
+	}
 	s.tokens[keep-1].last = s.tokens[len(s.tokens)-1].last
 	s.key = s.key[:s.tokens[keep].key]
 	s.tokens = s.tokens[:keep]

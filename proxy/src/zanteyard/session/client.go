@@ -82,7 +82,7 @@ func (s *Session) look(name string, text []byte) *statement {
 	if ahead != nil && ahead.name == name && ahead.looked == s.trust.plans && ahead.text == string(text) {
 		return ahead
 	}
-	st := &statement{name: name, text: string(text), looked: never}
+	st := &statement{name: name, text: string(text), looked: never, behind: s.somethingRuns()}
 	if !s.options.Auditing() && len(s.names.cursors) == 0 {
 		return st // it may be run after an audit has begun
 	}

@@ -1,6 +1,7 @@
 package session
 
 import (
+	"strings"
 	"time"
 
 	"zanteyard/condition"
@@ -41,7 +42,8 @@ func (s *Session) asksBy(st *statement, with condition.Arguments) *asking {
 	if !st.plan.Follows() {
 		return nil
 	}
-	with.Converts = s.converts()
+	with.Converts, with.Temporary = s.converts(), !shareable(s.trust.signature)
+	with.Escapes = st.behind || s.somethingRuns()
 	it := &asking{from: s.sent}
 	var err error
 	if it.Question, err = st.plan.Asks(st.text, st.tokens, with); err != nil {
@@ -52,7 +54,21 @@ func (s *Session) asksBy(st *statement, with condition.Arguments) *asking {
 
 // arguments are what a Bind has in the places of parameters.
 func (s *Session) arguments(b *wire.Bind, st *statement) condition.Arguments {
-	return condition.Arguments{Parameters: b.Parameters, Formats: s.formats(b), Types: declared(st.types)}
+	types := st.types
+	if st.parameters != nil { // the server has told them
+		types = st.parameters
+	}
+	return condition.Arguments{Parameters: b.Parameters, Formats: s.formats(b), Types: declared(types)}
+}
+
+// somethingRuns reports whether a statement that was sent before may still change a setting that the server hasn't told yet.
+func (s *Session) somethingRuns() bool {
+	for i := s.queue.head; i < len(s.queue.list); i++ {
+		if e := &s.queue.list[i]; e.kind == clients && strings.IndexByte("EQF", e.message) >= 0 {
+			return true
+		}
+	}
+	return false
 }
 
 // got takes a row that the SELECT returned: it has exactly one read, unless its key can't be told.

@@ -32,6 +32,7 @@ type statement struct {
 	unseen string // why it wasn't looked at
 	// fetchesNot: it wasn't looked at, and is no FETCH.
 	fetchesNot bool
+	behind     bool // it was sent while another one ran
 }
 
 // kind returns what the statement does, as far as is known.

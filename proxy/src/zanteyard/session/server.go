@@ -49,7 +49,7 @@ func (s *Session) answer(o *output, m []byte, start, end int) {
 		}
 		s.queue.pop()
 	case 't':
-		if e.message == 'D' && e.on != nil && e.on.name != "" {
+		if e.message == 'D' && e.on != nil && (e.on.name != "" || e.kind == clients) {
 			e.on.parameters = append([]byte(nil), m[wire.Header:]...)
 		}
 	case 'T':

@@ -32,6 +32,7 @@ type Control struct {
 	// What was found changed, and isn't told yet, since a Place has failed behind it.
 	changed   []record.Relation
 	rewritten []join.Rewritten
+	remade    bool
 }
 
 // NewControl connects, and reads the catalog.
@@ -147,7 +148,7 @@ func (c *Control) one(ctx context.Context, text own.Text) (string, error) {
 func (c *Control) Place(ctx context.Context) (join.Place, error) {
 	place, err := c.place(ctx)
 	if err == nil {
-		c.changed, c.rewritten = nil, nil
+		c.changed, c.rewritten, c.remade = nil, nil, false
 	}
 	return place, err
 }
@@ -159,8 +160,11 @@ func (c *Control) place(ctx context.Context) (join.Place, error) {
 		if err != nil {
 			return join.Place{}, err
 		}
-		if len(rows) != 1 || len(rows[0]) != 4 {
+		if len(rows) != 1 || len(rows[0]) < 4 {
 			return join.Place{}, errForm
+		}
+		if len(rows[0]) > 4 && c.tables.remade(rows[0][4]) {
+			c.remade = true
 		}
 		at, ok := parsePlace(rows[0][0])
 		if !ok {
@@ -173,9 +177,10 @@ func (c *Control) place(ctx context.Context) (join.Place, error) {
 		switch {
 		case rows[0][1] == c.tables.usedStamp() && !(c.tables.Missing() && c.mayReload()):
 			place.Rewritten = append(c.rewritten, c.tables.versions(rows[0][3])...)
+			place.Remade = c.remade
 			return place, nil
 		case again == mostReloads: // somebody changes one table after the other: nothing is verified for now
-			place.Unsure, place.Rewritten = true, c.rewritten
+			place.Unsure, place.Rewritten, place.Remade = true, c.rewritten, c.remade
 			return place, nil
 		}
 		more, also, err := c.reload(ctx)
@@ -207,22 +212,23 @@ const versionOfOne = `pg_catalog.concat_ws(' ', c.oid, pg_catalog.concat_ws(':',
 const stampOfOne = "pg_catalog.concat_ws(' ', c.oid, n.nspname, c.relname, c.relispartition, c.relreplident, i.indisreplident, " + catalog.IdentitySQL + ")"
 
 const (
-	placeBegin = "SELECT pg_catalog.pg_current_wal_insert_lsn(), s.stamps, pg_catalog.pg_current_snapshot(), s.versions " +
-		"FROM (SELECT pg_catalog.string_agg("
-	placeEnd = ", '; ' ORDER BY c.oid) AS stamps, pg_catalog.string_agg(" + versionOfOne + `, '; ' ORDER BY c.oid) AS versions
+	placeBegin = "SELECT pg_catalog.pg_current_wal_insert_lsn(), s.stamps, pg_catalog.pg_current_snapshot(), s.versions"
+	placeFrom  = " FROM (SELECT pg_catalog.string_agg("
+	placeEnd   = ", '; ' ORDER BY c.oid) AS stamps, pg_catalog.string_agg(" + versionOfOne + `, '; ' ORDER BY c.oid) AS versions
   FROM pg_catalog.pg_class c JOIN pg_catalog.pg_namespace n ON n.oid = c.relnamespace
   LEFT JOIN pg_catalog.pg_index i ON i.indrelid = c.oid AND i.indisprimary
   WHERE c.oid = ANY($1::pg_catalog.oid[])) s`
 )
 
-var placeSQL = own.SQL(placeBegin + stampOfOne + placeEnd)
+var placeSQL = own.SQL(placeBegin + placeFrom + stampOfOne + placeEnd)
 
-// The same for an audit that wants rows' values: a stamp then changes with each column.
+// The same for an audit that wants rows' values: a stamp then changes with each column. The last value changes with what
+// operators and the like mean.
 const valuesStampOfOne = valuesStamp + catalog.ColumnsSQL + ")"
 
 const valuesStamp = "pg_catalog.concat_ws(' ', c.oid, n.nspname, c.relname, c.relispartition, c.relreplident, i.indisreplident, " + catalog.IdentitySQL + ", "
 
-var valuesPlaceSQL = own.SQL(placeBegin + valuesStampOfOne + placeEnd)
+var valuesPlaceSQL = own.SQL(placeBegin + ", " + catalog.MadeSQL + placeFrom + valuesStampOfOne + placeEnd)
 
 // columnsSQL returns the columns of tables, other than partitions, whose rows' values may be wanted. What a table's
 // columns mean takes long to tell, so it is told once for each table.

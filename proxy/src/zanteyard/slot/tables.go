@@ -84,6 +84,7 @@ type Tables struct {
 	oids    string                       // of the tables that are used, as an array's text
 	stamp   string                       // their stamps
 	version string                       // and versions
+	made    record.Identity              // of what operators and the like mean; 0 before it was asked for
 	missing bool                         // an unknown name arrived: the tables have to be read again
 	left    map[left]uint64              // changes that are left out
 	strange map[string]time.Time         // unknown names, and when the tables were last to be read again because of them
@@ -260,7 +261,17 @@ func (t *Tables) SameColumns(relation record.Relation, identity record.Identity)
 	t.lock.RLock()
 	defer t.lock.RUnlock()
 	its := t.by[relation]
-	return its != nil && identity != 0 && its.shape == identity
+	return its != nil && its.shape != 0 && catalog.ColumnsIdentity(its.shape, t.made) == identity
+}
+
+// remade takes over what operators and the like mean now (catalog.MadeSQL), and reports whether that has changed.
+func (t *Tables) remade(text string) bool {
+	is := catalog.IdentityOf(text)
+	t.lock.Lock()
+	defer t.lock.Unlock()
+	was := t.made
+	t.made = is
+	return was != 0 && was != is
 }
 
 // list returns all tables, by name.

@@ -165,7 +165,7 @@ func (e *enemy) statement(tag string) error {
 	i, j, f := e.r.Intn(24), e.r.Intn(8), fmt.Sprintf
 	word := []string{"e", "é", "Ã©", "日"}[e.r.Intn(4)]
 	colour := []string{"red", "green", "blue"}[e.r.Intn(3)]
-	switch e.r.Intn(36) {
+	switch e.r.Intn(40) {
 	case 0, 1, 2:
 		return e.read("one", f("SELECT id, tag FROM one WHERE id = %d", i))
 	case 3:
@@ -230,6 +230,14 @@ func (e *enemy) statement(tag string) error {
 			}
 		}
 		return nil
+	case 36:
+		return e.read("one", f("SELECT id, tag FROM one WHERE n BETWEEN %d AND %d OR owner IN (%d, %d)", j/2, j, i%5, j%5))
+	case 37:
+		return e.read("child", f("SELECT id, tag FROM child WHERE parent = %d AND id <> %d", j, i))
+	case 38:
+		return e.read("part", f("SELECT a, b, tag FROM part WHERE a IN (%d, %d)", j%4, i%4))
+	case 39:
+		return e.read("empties", f("SELECT id, tag FROM empties WHERE NOT id < %d", i))
 	case 34:
 		if err := e.write("SAVEPOINT b"); err != nil {
 			return err
@@ -436,7 +444,7 @@ func fight(t *testing.T, level string, more ...string) {
 	mixed := level == "read committed"
 	c := start(t, "deadlock_timeout=20ms", "default_transaction_isolation='"+level+"'")
 	sql(t, directly(t, c), "SET default_transaction_isolation = 'read committed'; "+enemySchema+"; ANALYZE")
-	p := begin(t, c, append([]string{"--parameters=false", "--look", "200ms"}, more...)...)
+	p := begin(t, c, append([]string{"--parameters=false", "--look", "200ms", "--conditions"}, more...)...)
 	p.until(`["open"`)
 	b := &battlefield{deeds: map[string]*deeds{}}
 	var all sync.WaitGroup
@@ -474,9 +482,10 @@ func fight(t *testing.T, level string, more ...string) {
 	if !mixed {
 		judge.g.check(t, level != "serializable")
 	}
-	t.Logf("%v: of %d committed %d transactions were told, with %d reads, of which %d were compared, and %d levels", time.Since(began),
-		b.commits.Load(), len(judge.g.names)-judge.g.fences, judge.reads, judge.compared, judge.levels)
-	if judge.compared < *enemies/4 || mixed && judge.levels < *enemies/4 {
+	t.Logf("%v: of %d committed %d transactions were told, with %d reads, of which %d were compared and %d are of what was passed over, "+
+		"and %d levels", time.Since(began), b.commits.Load(), len(judge.g.names)-judge.g.fences, judge.reads, judge.compared, judge.passed,
+		judge.levels)
+	if judge.compared < *enemies/4 || judge.passed < *enemies/100 || mixed && judge.levels < *enemies/4 {
 		t.Error("too little was compared")
 	}
 }

@@ -20,6 +20,7 @@ type referee struct {
 	names                   map[string]string          // by tag
 	wrote                   map[string]map[string]bool // the rows, by name
 	reads, compared, levels int
+	passed                  int // reads of what conditions passed over
 }
 
 type enemyTold struct {
@@ -123,14 +124,18 @@ func (it *enemyTold) tag() string {
 	return ""
 }
 
-// rows are the tables of keys, and the rows.
-func (it *enemyTold) rows() map[int][2]string {
-	rows := map[int][2]string{}
+// rows are the tables of keys, and the rows; registers are those of conditions, and their tables.
+func (it *enemyTold) rows() (rows map[int][2]string, registers map[int]string) {
+	rows, registers = map[int][2]string{}, map[int]string{}
 	for _, key := range it.Keys {
 		table := strings.TrimPrefix(key.Table, "public.")
+		if key.Condition != "" {
+			registers[key.Key] = table
+			continue
+		}
 		rows[key.Key] = [2]string{table, table + " " + key.Row}
 	}
-	return rows
+	return rows, registers
 }
 
 func (j *referee) named(its []enemyTold) {
@@ -140,9 +145,11 @@ func (j *referee) named(its []enemyTold) {
 			continue
 		}
 		j.names[tag], j.wrote[name] = name, map[string]bool{}
-		rows := its[i].rows()
+		rows, registers := its[i].rows()
 		for _, key := range its[i].Writes {
-			j.wrote[name][rows[key][0]], j.wrote[name][rows[key][1]] = true, true
+			if registers[key] == "" {
+				j.wrote[name][rows[key][0]], j.wrote[name][rows[key][1]] = true, true
+			}
 		}
 	}
 }
@@ -174,7 +181,8 @@ func (j *referee) compare(its []enemyTold) {
 }
 
 func (j *referee) compareReads(tag string, it *enemyTold, did *deeds) {
-	rows, wrote := it.rows(), map[int]bool{}
+	rows, registers := it.rows()
+	wrote := map[int]bool{}
 	for _, key := range it.Writes {
 		wrote[key] = true
 	}
@@ -184,6 +192,12 @@ func (j *referee) compareReads(tag string, it *enemyTold, did *deeds) {
 		table, at := rows[key][0], rows[key][1]
 		if wrote[key] {
 			continue // what its write replaced
+		}
+		if of := registers[key]; of != "" {
+			if j.passed++; !did.asked[of] {
+				j.t.Errorf("%s is told with what it passed over in %s, and has asked for nothing there", tag, of)
+			}
+			continue
 		}
 		if keysChange[table] {
 			at = table

@@ -1,0 +1,263 @@
+package main
+
+import (
+	"context"
+	"errors"
+	"fmt"
+	"math/rand"
+	"strconv"
+	"strings"
+	"time"
+
+	"github.com/jackc/pgconn"
+)
+
+// phantomRow is a row's values; a is -1 for NULL.
+type phantomRow struct{ a, b int }
+
+// phantomCondition is one that is asked by.
+type phantomCondition struct {
+	text  string
+	holds func(phantomRow) bool // NULL is no
+}
+
+const phantomKinds = 8
+
+func someCondition(r *rand.Rand) phantomCondition {
+	return conditionOf(r.Intn(phantomKinds), r.Intn(3), r.Intn(4))
+}
+
+func conditionOf(kind, c, d int) phantomCondition {
+	switch kind {
+	case 0, 1:
+		return phantomCondition{fmt.Sprintf("a = %d", c), func(v phantomRow) bool { return v.a == c }}
+	case 2:
+		return phantomCondition{fmt.Sprintf("b >= %d", d), func(v phantomRow) bool { return v.b >= d }}
+	case 3:
+		return phantomCondition{fmt.Sprintf("a = %d AND b < %d", c, d), func(v phantomRow) bool { return v.a == c && v.b < d }}
+	case 4:
+		return phantomCondition{fmt.Sprintf("a IN (%d, %d)", c, d), func(v phantomRow) bool { return v.a == c || v.a == d }}
+	case 5:
+		return phantomCondition{fmt.Sprintf("b BETWEEN %d AND %d", d, d+1), func(v phantomRow) bool { return v.b >= d && v.b <= d+1 }}
+	case 6:
+		return phantomCondition{fmt.Sprintf("NOT a = %d", c), func(v phantomRow) bool { return v.a != -1 && v.a != c }}
+	}
+	return phantomCondition{fmt.Sprintf("(a IS NULL OR b = %d)", d), func(v phantomRow) bool { return v.a == -1 || v.b == d }}
+}
+
+// asks are the SELECT's texts for a condition.
+func (c phantomCondition) asks(table string) (texts []string) {
+	for _, text := range []string{c.text, "(" + c.text + ") OR id = 0"} {
+		for _, more := range []string{"", " ORDER BY id LIMIT 100", " FOR UPDATE"} {
+			texts = append(texts, "SELECT id, tag, pg_current_snapshot() FROM "+table+" WHERE "+text+more)
+		}
+	}
+	return texts
+}
+
+// phantomAsk is a SELECT with what it returned: the tags of versions, by key.
+type phantomAsk struct {
+	by            phantomCondition
+	found         map[int]string
+	own           map[int]bool // keys that the transaction had written before
+	before, after snap         // its snapshot is one of those between
+	locks         bool         // FOR UPDATE
+	alone         bool         // it read these rows, and asked for nothing
+}
+
+type phantomTxn struct {
+	client, place int
+	tag           string
+	xid           uint64 // 0 if it has none
+	asks          []phantomAsk
+}
+
+// snap is a server's snapshot.
+type snap struct {
+	most uint64
+	open map[uint64]bool
+}
+
+func snapOf(text string) snap {
+	parts := strings.Split(text, ":")
+	its := snap{open: map[uint64]bool{}}
+	its.most, _ = strconv.ParseUint(parts[1], 10, 64)
+	for _, one := range strings.Split(parts[2], ",") {
+		if n, err := strconv.ParseUint(one, 10, 64); err == nil {
+			its.open[n] = true
+		}
+	}
+	return its
+}
+
+func (s snap) has(xid uint64) bool { return xid < s.most && !s.open[xid] }
+
+// phantomClient runs the transactions of one connection.
+type phantomClient struct {
+	conn   *pgconn.PgConn
+	r      *rand.Rand
+	number int
+	level  string
+	table  string
+	done   []*phantomTxn
+	err    error
+}
+
+func (c *phantomClient) ask(text string) ([][]string, error) {
+	ctx, cancel := context.WithTimeout(context.Background(), time.Minute)
+	defer cancel()
+	var result *pgconn.Result
+	if c.r.Intn(3) == 0 {
+		result = c.conn.ExecParams(ctx, text, nil, nil, nil, nil).Read()
+	} else if results, err := c.conn.Exec(ctx, text).ReadAll(); err != nil || len(results) == 0 {
+		return nil, err
+	} else {
+		result = results[len(results)-1]
+	}
+	var rows [][]string
+	for _, row := range result.Rows {
+		var texts []string
+		for _, value := range row {
+			texts = append(texts, string(value))
+		}
+		rows = append(rows, texts)
+	}
+	return rows, result.Err
+}
+
+func (c *phantomClient) run(history string, count int) {
+	for i := 0; i < count && c.err == nil; i++ {
+		t := &phantomTxn{client: c.number, place: i, tag: fmt.Sprintf("%s.%d.%d", history, c.number, i)}
+		err := c.transaction(t)
+		var told *pgconn.PgError
+		switch {
+		case err == nil:
+			c.done = append(c.done, t)
+		case errors.As(err, &told) && (strings.HasPrefix(told.Code, "40") || told.Code == "23505"):
+			_, c.err = c.ask("ROLLBACK")
+		default:
+			c.err = err
+		}
+	}
+}
+
+func (c *phantomClient) transaction(t *phantomTxn) error {
+	if _, err := c.ask("BEGIN ISOLATION LEVEL " + c.level); err != nil {
+		return err
+	}
+	own := map[int]bool{}
+	if err := c.select_(t, own); err != nil {
+		return err
+	}
+	for n := c.r.Intn(3); n >= 0; n-- {
+		time.Sleep(time.Duration(c.r.Intn(3000)) * time.Microsecond)
+		var err error
+		if c.r.Intn(5) < 2 {
+			err = c.select_(t, own)
+		} else {
+			err = c.write(t, own)
+		}
+		if err != nil {
+			return err
+		}
+	}
+	rows, err := c.ask("SELECT pg_current_xact_id_if_assigned()")
+	if err == nil {
+		t.xid, _ = strconv.ParseUint(rows[0][0], 10, 64)
+		_, err = c.ask("COMMIT")
+	}
+	return err
+}
+
+func (c *phantomClient) select_(t *phantomTxn, own map[int]bool) error {
+	it := phantomAsk{by: someCondition(c.r), found: map[int]string{}, own: map[int]bool{}}
+	for k := range own {
+		it.own[k] = true
+	}
+	rows, err := c.ask("SELECT pg_current_snapshot()")
+	if err != nil {
+		return err
+	}
+	it.before = snapOf(rows[0][0])
+	texts, which := it.by.asks(c.table), 3*c.r.Intn(2)
+	switch c.r.Intn(8) {
+	case 0:
+		which++
+	case 1:
+		which, it.locks = which+2, true
+	}
+	text := texts[which]
+	if rows, err = c.ask(text); err != nil {
+		return err
+	}
+	for _, row := range rows {
+		key, _ := strconv.Atoi(row[0])
+		it.found[key], it.before, it.after = row[1], snapOf(row[2]), snapOf(row[2])
+	}
+	if len(rows) == 0 || it.locks {
+		if rows, err = c.ask("SELECT pg_current_snapshot()"); err != nil {
+			return err
+		}
+		it.after = snapOf(rows[0][0])
+	}
+	t.asks = append(t.asks, it)
+	return nil
+}
+
+func (c *phantomClient) write(t *phantomTxn, own map[int]bool) error {
+	key, a, b := 1+c.r.Intn(phantomKeys), strconv.Itoa(c.r.Intn(3)), c.r.Intn(4)
+	if c.r.Intn(8) == 0 {
+		a = "NULL"
+	}
+	undone, deletes := c.r.Intn(8) == 0, false
+	text := ""
+	switch c.r.Intn(6) {
+	case 0, 1:
+		text = fmt.Sprintf("INSERT INTO %s VALUES (%d, %s, %d, '%s') ON CONFLICT DO NOTHING", c.table, key, a, b, t.tag)
+	case 2:
+		text = fmt.Sprintf("UPDATE "+c.table+" SET a = %s, tag = '%s' WHERE id = %d", a, t.tag, key)
+	case 3:
+		text = fmt.Sprintf("UPDATE "+c.table+" SET b = %d, tag = '%s' WHERE id = %d", b, t.tag, key)
+	case 4:
+		text = fmt.Sprintf("UPDATE "+c.table+" SET b = %d, tag = '%s' WHERE a = %d AND id > 0", b, t.tag, c.r.Intn(3))
+	default:
+		deletes = true
+		text = fmt.Sprintf("DELETE FROM %s WHERE id = %d", c.table, key)
+	}
+	if undone {
+		if _, err := c.ask("SAVEPOINT a"); err != nil {
+			return err
+		}
+	}
+	rows, err := c.ask(text + " RETURNING id, tag")
+	if err != nil {
+		return err
+	}
+	if undone {
+		if deletes { // what it removed it has read, though that is undone
+			for _, row := range rows {
+				k, _ := strconv.Atoi(row[0])
+				t.asks = append(t.asks, phantomAsk{found: map[int]string{k: row[1]}, alone: true})
+			}
+		}
+		seen := map[int]bool{}
+		for k := range own {
+			seen[k] = true
+		}
+		for _, row := range rows {
+			k, _ := strconv.Atoi(row[0])
+			seen[k] = true
+		}
+		if err := c.select_(t, seen); err != nil {
+			return err
+		}
+		// What it wrote isn't in the log, so nobody knows what this SELECT saw but by its snapshot.
+		_, err := c.ask("ROLLBACK TO a")
+		return err
+	}
+	for _, row := range rows {
+		k, _ := strconv.Atoi(row[0])
+		own[k] = true
+	}
+	return nil
+}
