@@ -285,11 +285,21 @@ func (s *spare) without(it *record.Transaction) uint64 {
 	return rows - taken
 }
 
+// left returns how many rows nobody has told yet.
+func (s *spare) left() uint64 {
+	if s == nil {
+		return 0
+	}
+	s.lock.Lock()
+	defer s.lock.Unlock()
+	return s.rows
+}
+
 // spares records how many such rows an audit's end has left.
 func (b *Inbox) spares(rows uint64) {
 	b.lock.Lock()
 	defer b.lock.Unlock()
-	b.spare = &spare{until: b.now(), rows: rows}
+	b.spare = &spare{until: b.now(), rows: rows + b.spare.left()}
 	waiting := b.waiting
 	b.ending, b.waiting = false, nil
 	for _, it := range waiting {

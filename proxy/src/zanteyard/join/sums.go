@@ -60,7 +60,7 @@ func (c *core) await(it *record.Transaction) {
 	}
 	rows := it.Did.Written
 	if began.Before(c.opened) {
-		if c.mayBeBefore(it) {
+		if c.mayBeBefore(it) || it.Unaudited && !it.Known.IsZero() { // from elsewhere: it may have ended at any time
 			rows = c.spare.without(it)
 		}
 		c.counts.early += rows

@@ -63,6 +63,7 @@ type attached struct {
 	id, name    string
 	try         uint64
 	epoch       uint64 // 0: not any more
+	last        uint64 // the one that ended last
 	next        uint64 // number of the message that has to come next
 	received    uint64 // transactions that were reported, including lost ones
 	arrived     uint64
@@ -247,6 +248,7 @@ func (h *Hub) one(m *toHub, now time.Time) {
 	a := h.proxies[m.Proxy]
 	switch {
 	case a == nil || m.Epoch == 0 || m.Epoch != a.epoch:
+		h.takeLate(a, m, now)
 		if m.Epoch != 0 {
 			h.say(fromHub{Gone: m.Epoch}) // it was silent for too long, or something was lost
 		}
@@ -327,7 +329,7 @@ func (h *Hub) end(a *attached, why string) {
 	if why != "" {
 		h.options.Log("the proxy " + a.name + " no longer feeds this audit: " + why)
 	}
-	a.epoch = 0
+	a.epoch, a.last = 0, a.epoch
 	numbers := make([]uint64, 0, len(a.connections))
 	for _, number := range a.connections {
 		numbers = append(numbers, number)

@@ -43,6 +43,27 @@ type transaction struct {
 	Tick int64 // the last one received before it began, 0 if there was none
 }
 
+// sizeOf returns about how many bytes a transaction takes.
+func sizeOf(it *record.Transaction) int {
+	n := 256 + len(it.Snapshot) + 4*len(it.Versions)
+	for _, one := range it.Reads {
+		n += 24 + len(one.Key)
+	}
+	for _, one := range it.Absent {
+		n += 24 + len(one.Key)
+	}
+	for _, one := range it.Statements {
+		n += 64 + len(one.Text)
+		for _, parameter := range one.Parameters {
+			n += 16 + len(parameter)
+		}
+		for _, left := range one.Unseen {
+			n += 16 + len(left.Shape) + len(left.Reason)
+		}
+	}
+	return n
+}
+
 type unseen struct {
 	Shape, Reason string
 	Reads         bool

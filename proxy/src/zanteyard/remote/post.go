@@ -51,6 +51,7 @@ type Post struct {
 	dropped uint64
 	items   []item
 	bytes   int
+	idle    []record.Transaction // those that ended without an attachment, since the last one
 	unseen  map[unseen]uint64
 	wanted  *answer // a hello's answer, whose mark still has to be looked for
 	mark    int64
@@ -94,6 +95,7 @@ func (p *Post) Transaction(it record.Transaction) {
 	defer p.lock.Unlock()
 	switch {
 	case p.epoch == 0:
+		p.keep(it)
 		return
 	case p.beyond[it.Connection] && len(it.Reads)+len(it.Absent) > 0:
 		it.Unsent, it.Did = len(it.Reads)+len(it.Absent), it.Did.Alone(len(it.Reads))
@@ -135,26 +137,6 @@ func (p *Post) redact(it *record.Transaction) {
 		its[i] = one
 	}
 	it.Statements = its
-}
-
-func sizeOf(it *record.Transaction) int {
-	n := 256 + len(it.Snapshot) + 4*len(it.Versions)
-	for _, one := range it.Reads {
-		n += 24 + len(one.Key)
-	}
-	for _, one := range it.Absent {
-		n += 24 + len(one.Key)
-	}
-	for _, one := range it.Statements {
-		n += 64 + len(one.Text)
-		for _, parameter := range one.Parameters {
-			n += 16 + len(parameter)
-		}
-		for _, left := range one.Unseen {
-			n += 16 + len(left.Shape) + len(left.Reason)
-		}
-	}
-	return n
 }
 
 // put queues an item for sending. Called with lock held.
@@ -285,7 +267,7 @@ func (p *Post) answered(it *answer) {
 	p.wanted = it // look continues
 }
 
-// detach ends the attachment: what hasn't been sent is never reported. Called with lock held.
+// detach ends the attachment: what hasn't been sent is counted by the next one. Called with lock held.
 func (p *Post) detach() {
 	if p.epoch != 0 {
 		p.options.Log("this proxy no longer feeds the audit; traffic is passed on without auditing")
@@ -295,7 +277,7 @@ func (p *Post) detach() {
 	p.shown.Store(0)
 	for _, it := range p.items {
 		if it.Transaction != nil {
-			p.dropped++
+			p.keep(it.Transaction.Its)
 		}
 	}
 	p.items, p.bytes = nil, 0
@@ -309,12 +291,12 @@ func (p *Post) attach(it *answer) {
 	p.takes.Store(true)
 	p.redacts, p.hides = p.options.Redacts || it.Redacts, it.Redacts
 	p.epoch, p.mark, p.looked, p.next, p.wanted = it.Epoch, it.Mark, time.Now(), 0, nil
-	p.fed = p.run
 	p.items, p.bytes, p.beyond = nil, 0, nil
 	for _, one := range p.live {
 		one := one
 		p.put(item{Connection: &one}, 0)
 	}
+	p.reportIdle()
 	p.options.Log("this proxy feeds the audit")
 }
 

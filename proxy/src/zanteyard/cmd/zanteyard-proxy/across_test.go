@@ -268,12 +268,13 @@ type listener struct {
 	*attached
 	kept                 chan string // all of it, to its end
 	opens, stopped, over chan bool
-	heard                chan bool // closed at the end
+	heard                chan bool   // closed at the end
+	fed                  chan string // its counts, if somebody waits for them
 }
 
 func adopt(t *testing.T, path string) *listener {
 	p := &listener{attachAgain(t, path), make(chan string, 1<<20), make(chan bool, 100), make(chan bool, 100), make(chan bool, 100),
-		make(chan bool)}
+		make(chan bool), make(chan string)}
 	go func() {
 		defer close(p.kept)
 		defer close(p.heard)
@@ -285,6 +286,11 @@ func adopt(t *testing.T, path string) *listener {
 				p.stopped <- true
 			case strings.HasPrefix(line, `{"event":"ended"`):
 				p.over <- true
+			case strings.HasPrefix(line, `{"event":"coverage"`):
+				select {
+				case p.fed <- line:
+				default:
+				}
 			}
 			p.kept <- line
 		}
