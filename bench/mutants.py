@@ -1,11 +1,11 @@
 """Whether the tests find small faults: each mutant is the code with one place changed.
 
-    /usr/bin/python3 bench/mutants.py python|go [--count 60] [--seed 1] [--processes 2] [--only FILE:LINE] [--rows FILE]
+    /usr/bin/python3 bench/mutants.py python|go|conditions [--count 60] [--seed 1] [--processes 2] [--only FILE:LINE] [--rows FILE]
 
-Mutants of the Python package's sessions, live audits, rounds, notes and crash recovery, or of the
-proxy's joiner, are drawn with the seed. Python: the tests are traced once; each mutant is run with
+Mutants of the Python package's sessions, live audits, rounds, notes and crash recovery, of the
+proxy's joiner, or of what it does with conditions, are drawn with the seed. Python: the tests are traced once; each mutant is run with
 the tests that run its line and pass without it, in a copy of the tree. Go: with the joiner's tests,
-by an overlay. A mutant is found if a test fails, or takes eight times as long as without it. It
+by an overlay; those of package condition with that one's. A mutant is found if a test fails, or takes eight times as long as without it. It
 prints a line for each mutant that isn't found, which somebody has to read: either it means the
 same, or a test is missing. The status is 1 if more than one in twenty isn't found.
 """
@@ -39,13 +39,14 @@ FILES = {
         *("session/_crash_notes.py", "program/_tenancy.py", "program/_window.py", "remote/_crash_recovery.py"),
     ),
     "go": ("src/zanteyard/join/*.go",),
+    "conditions": ("src/zanteyard/condition/*.go", "src/zanteyard/join/conditions.go", "src/zanteyard/join/passed.go"),
 }
 # Of the Python package: each mutant is run with the tests in these modules that run its line.
 TESTS = (
     *("transactions", "meetings", "places", "forks", "notes", "circumstances", "redacting", "processes", "no_harm"),
     *("two_stores.InMemory", "two_stores.Told", "aborted", "joining", "live", "rounds", "killed.Killed"),
 )
-GO_SLOW = "Lives|MakesUpNo|MemoryIsBounded|HotRow"  # the joiner's tests that take seconds
+GO_SLOW = "Lives|MakesUpNo|MemoryIsBounded|HotRow|AsTheServerDoes"  # the tests that take seconds
 QUICKEST = 100  # tests, for code that runs before any of them
 LONGEST = 1800.0  # seconds for a call of tests without a mutant
 Mutant = collections.namedtuple("Mutant", "path line about text")  # the text is made on demand
@@ -264,15 +265,16 @@ def go_calls(folder, names, mutant):
             file.write(mutant.text())
     with open(overlay, "w", encoding="utf-8") as file:
         json.dump({"Replace": {mutant.path: text} if mutant is not None else {}}, file)
-    package = os.path.join(PROXY, "src/zanteyard/join")
-    made = ["go", "test", "-c", "-vet=off", "-overlay", overlay, "-o", program, "zanteyard/join"]
+    its = "join" if mutant is None else os.path.basename(os.path.dirname(mutant.path))
+    package = os.path.join(PROXY, "src/zanteyard", its)
+    made = ["go", "test", "-c", "-vet=off", "-overlay", overlay, "-o", program, f"zanteyard/{its}"]
     if subprocess.run(made, cwd=PROXY, capture_output=True, check=False).returncode:
         yield None
         return
     listed = subprocess.run([program, "-test.list", "^Test"], cwd=package, capture_output=True, text=True, check=False)
     every = listed.stdout.split()
     slow = [name for name in every if re.search(GO_SLOW, name)]
-    for name, some in (("join", [name for name in every if name not in slow]), ("join, slow ones", slow)):
+    for name, some in ((its, [name for name in every if name not in slow]), (f"{its}, slow ones", slow)):
         yield name, [program, "-test.failfast", "-test.run", f"^({'|'.join(some)})$"], package
     for name in names:
         yield name, ["go", "test", "-vet=off", "-failfast", "-overlay", overlay, f"zanteyard/{name}"], PROXY
@@ -284,8 +286,9 @@ def go_fate(folder, mutant, names, limits):
         if one is None:
             return "isn't one", ""
         name, call, home = one
-        if limits[name] is not None:
-            fate, by = fate_by(*end_of(call, home, folder, limits[name]))
+        limit = limits.get(name, LONGEST)
+        if limit is not None:
+            fate, by = fate_by(*end_of(call, home, folder, limit))
             if fate != "lives":
                 return fate, f"{name} {by}"
     return "lives", ""
@@ -355,14 +358,14 @@ def main():
     parser.add_argument("--rows", metavar="FILE", help="write a row for each mutant there; those already there aren't run again")
     parser.add_argument("--lines", metavar="FOLDER", help="keep there which lines the tests run, and use what is there")
     asked = parser.parse_args()
-    if asked.kind == "go":  # as in proxy/env.sh
+    if asked.kind != "python":  # as in proxy/env.sh
         words = subprocess.run(["sh", "-c", ". ./env.sh && env"], cwd=PROXY, capture_output=True, text=True, check=True)
         os.environ.update(line.split("=", 1) for line in words.stdout.splitlines() if re.match(r"(GO|CGO_)\w+=", line))
     fates, earlier, writing = collections.Counter(), written_rows(asked.rows), threading.Lock()
     mutants = drawn(asked.kind, asked.count, asked.seed, asked.only)
     with tempfile.TemporaryDirectory() as folder:
         os.chmod(folder, 0o711)
-        if asked.kind == "go":
+        if asked.kind != "python":
             limits = go_limits(folder, asked.tests or ())
         else:
             ran = traced(asked.tests or TESTS, asked.lines or folder)
@@ -373,7 +376,7 @@ def main():
         if its is None:
             with tempfile.TemporaryDirectory() as folder:
                 os.chmod(folder, 0o711)  # if this runs as root, servers run as another user
-                if asked.kind == "go":
+                if asked.kind != "python":
                     its = go_fate(folder, mutant, asked.tests or (), limits)
                 else:
                     its = python_fate(folder, mutant, ran)

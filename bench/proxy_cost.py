@@ -4,8 +4,10 @@
         [--way NAME ..] [--protocol NAME ..] [--scale N] [--latency]
 
 Each work of pgbench (`select` is its -S, `update` its -N, `tpcb` its tpcb-like; `transfer` is two
-reads and an update at serializable) runs each way in turn: `direct`, `pgbouncer` (session pooling),
-`passing` (the proxy with --pass), `audited` (`zanteyard watch` with everything that it starts). The
+reads and an update at serializable; `asks` is a read and an update, where two reads in five ask by
+a condition, hardly ever the same one) runs each way in turn: `direct`, `pgbouncer` (session
+pooling), `passing` (the proxy with --pass), `audited` (`zanteyard watch` with everything that it
+starts), `followed` (the same with --conditions). The
 programs in between run only during their turn. The table has, as medians: transactions per second;
 their share of the direct ones; the microseconds of processor time per transaction, of pgbouncer or
 the proxy, and of the rest of the audit; and with --latency, the median and the 99th percentile of a
@@ -34,8 +36,8 @@ TOP = os.path.join(os.path.dirname(os.path.abspath(__file__)), "..")
 sys.path[:0] = [os.path.join(TOP, "collectors/python"), os.path.join(TOP, "collectors/python/tests")]
 from proxy_pair import Server, postgres_program, proxy_program
 
-WAYS = ("direct", "pgbouncer", "passing", "audited")
-WORKS = ("select", "update", "tpcb", "transfer")
+WAYS = ("direct", "pgbouncer", "passing", "audited", "followed")
+WORKS = ("select", "update", "tpcb", "transfer", "asks")
 TICKS = os.sysconf("SC_CLK_TCK")
 TRANSFER = """\\set a random(1, 100000 * :scale)
 \\set b random(1, 100000 * :scale)
@@ -46,6 +48,19 @@ SELECT abalance FROM pgbench_accounts WHERE aid = :b;
 UPDATE pgbench_accounts SET abalance = abalance - :n WHERE aid = :a;
 COMMIT;
 """
+VISITS = """CREATE TABLE visits (id int PRIMARY KEY, room int NOT NULL, state int NOT NULL);
+INSERT INTO visits SELECT i, i / 3, 0 FROM generate_series(1, 300000) i;
+CREATE INDEX ON visits (room); ANALYZE visits"""
+VISIT = """\\set a random(1, 300000)
+\\set b random(1, 300000)
+\\set r random(1, 100000)
+\\set n random(1, 100)
+BEGIN;
+SELECT id, state FROM visits WHERE {};
+UPDATE visits SET state = :n, room = :b / 3 WHERE id = :b;
+COMMIT;
+"""
+ASKS = {"asks": ("room = :r AND state >= 0", 2), "finds": ("id = :a", 3)}  # by weight
 BOUNCER = """[databases]
 * = host={host} port={port} user=postgres
 [pgbouncer]
@@ -168,13 +183,14 @@ class Started:
             call = [sys.executable, "-m", "zanteyard", "watch", url, "--log", "WARNING"]
             call.append("--trust-clients")
             call += ["--listen", f"127.0.0.1:{listen}", "--metrics", figures]
+            call += ["--conditions"] if name == "followed" else []
         log = open(os.path.join(self.folder, f"{name}.log"), "wb")
         started = subprocess.Popen(
             call, stdin=subprocess.DEVNULL, stdout=log, stderr=log, env=environment, **as_user
         )
         self.running.append(started)
         wait_for("127.0.0.1", listen)
-        if name == "audited":
+        if name in ("audited", "followed"):
             wait_for_audit(figures)
         return Way(name, "127.0.0.1", listen, started.pid)
 
@@ -229,8 +245,13 @@ def run(asked: Any, folder: str, way: Way, work: str, protocol: str, clients: in
         call.append("-N")
     elif work == "transfer":
         call += ["-f", os.path.join(folder, "transfer.sql"), "--max-tries", "100"]
+    elif work == "asks":
+        for name, (_, weight) in ASKS.items():
+            call += ["-f", os.path.join(folder, f"{name}.sql@{weight}")]
     if asked.latency:
         call += ["-l", "--log-prefix", os.path.join(folder, "latency")]
+    if asked.rate:
+        call += ["-R", str(asked.rate)]
     before = way.used()
     done = subprocess.run(call + ["postgres"], capture_output=True, text=True, check=False)
     after = way.used()
@@ -284,6 +305,8 @@ def prepared_server(folder: str, scale: int) -> Iterator[tuple[Server, str]]:
         call = [postgres_program("pgbench") or "pgbench", "-i", "-q", "-s", str(scale)]
         call += ["-h", "127.0.0.1", "-p", str(server.port), "-U", "postgres", "postgres"]
         subprocess.run(call, check=True, capture_output=True)
+        call = [postgres_program("psql") or "psql", "-qX", "-h", "127.0.0.1", "-p", str(server.port)]
+        subprocess.run([*call, "-U", "postgres", "-c", VISITS, "postgres"], check=True)
         yield server, proxy
     except BaseException:
         print(f"what the programs logged is in {folder}", file=sys.stderr)
@@ -305,12 +328,16 @@ def main() -> None:
         "--protocol", nargs="+", choices=("simple", "extended", "prepared"),
         default=["simple", "prepared"],
     )
+    parser.add_argument("--rate", type=int, help="transactions a second at most")
     parser.add_argument("--latency", action="store_true", help="also show how long transactions took")
     asked = parser.parse_args()
     folder = tempfile.mkdtemp(prefix="proxy_cost")
     os.chmod(folder, 0o777)
     with open(os.path.join(folder, "transfer.sql"), "w", encoding="utf-8") as file:
         file.write(TRANSFER)
+    for name, (condition, _) in ASKS.items():
+        with open(os.path.join(folder, f"{name}.sql"), "w", encoding="utf-8") as file:
+            file.write(VISIT.format(condition))
     with prepared_server(folder, asked.scale) as (server, proxy):
         table(asked, folder, Started(folder, "127.0.0.1", server.port, proxy))
 

@@ -23,8 +23,8 @@ class Counts(unittest.TestCase):
         self.assertEqual(
             lines[:3],
             [
-                "1,200 conditions of SELECTs, 1,000 of them followed: 4,000 rows that they passed "
-                "over were checked, too",
+                "1,200 conditions of statements, 1,000 followed: 4,000 rows that they passed over were "
+                "checked, too",
                 "200 conditions not followed: an aggregate 150; LIMIT 50",
                 "1 row that may have been passed over, not checked: "
                 "a row that the transaction itself wrote 1",
@@ -34,7 +34,7 @@ class Counts(unittest.TestCase):
 
     def test_if_none_are_followed(self):
         lines = [*seen_of(feed.coverage()).more_lines()]
-        self.assertIn("(phantoms) weren't checked", lines[0])
+        self.assertIn("(phantoms), weren't checked", lines[0])
 
     def test_of_two_audits(self):
         one = seen_of(feed.coverage(conditions=SAID))

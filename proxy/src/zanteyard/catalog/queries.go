@@ -113,13 +113,10 @@ WHERE n.nspname <> 'pg_catalog'
   AND NOT (p.provolatile = 'i' OR p.provolatile = 's' AND l.lanname IN ('c', 'internal'))`)
 
 // ColumnsSQL is the text that IdentityOf makes the identity of all columns of the table c of pg_class from: what they
-// are called, their types and collations, when each was last changed, and whether there is row security. Where a column's
-// type is a domain or an enumeration, all enumerations' labels are in it. It is the same text on connections of all
-// encodings.
-const ColumnsSQL = `(SELECT pg_catalog.encode(pg_catalog.sha256(pg_catalog.convert_to(pg_catalog.concat_ws(' ', c.relrowsecurity,
-    (WITH RECURSIVE parts AS (SELECT h.inhrelid, h.xmin FROM pg_catalog.pg_inherits h WHERE h.inhparent OPERATOR(pg_catalog.=) c.oid
-        UNION ALL SELECT h.inhrelid, h.xmin FROM parts JOIN pg_catalog.pg_inherits h ON h.inhparent OPERATOR(pg_catalog.=) parts.inhrelid)
-      SELECT pg_catalog.string_agg(pg_catalog.concat_ws(' ', parts.inhrelid, parts.xmin), ',' ORDER BY parts.inhrelid) FROM parts),
+// are called, their types and collations, when each was last changed, and what else decides which rows a condition means
+// (besideColumns). Where a column's type is a domain or an enumeration, all enumerations' labels are in it. It is the same
+// text on connections of all encodings.
+const ColumnsSQL = `(SELECT pg_catalog.encode(pg_catalog.sha256(pg_catalog.convert_to(pg_catalog.concat_ws(' ', ` + besideColumns + `,
     pg_catalog.string_agg(pg_catalog.concat_ws(' ', ca.attnum, ca.attname, ca.atttypid, ca.atttypmod, ca.attcollation, ca.xmin,
     CASE WHEN (SELECT y.typtype FROM pg_catalog.pg_type y WHERE y.oid OPERATOR(pg_catalog.=) ca.atttypid) IN ('d', 'e')
       THEN (SELECT pg_catalog.string_agg(pg_catalog.concat_ws(' ', e.enumtypid, e.oid, e.enumlabel, e.enumsortorder, e.xmin), ','
@@ -127,8 +124,28 @@ const ColumnsSQL = `(SELECT pg_catalog.encode(pg_catalog.sha256(pg_catalog.conve
     ';' ORDER BY ca.attnum)), pg_catalog.getdatabaseencoding())), 'hex') FROM pg_catalog.pg_attribute ca
   WHERE ca.attrelid OPERATOR(pg_catalog.=) c.oid AND ca.attnum OPERATOR(pg_catalog.>) 0)`
 
+// ColumnsStampSQL is a text that changes whenever ColumnsSQL does, other than by an enumeration, and that takes a fraction
+// of its time: whoever changes a column writes its row in the catalog.
+const ColumnsStampSQL = `(SELECT pg_catalog.concat_ws(' ', ` + besideColumns + `, pg_catalog.count(*),
+    pg_catalog.sum(ca.xmin::pg_catalog.text::pg_catalog.int8)) FROM pg_catalog.pg_attribute ca
+  WHERE ca.attrelid OPERATOR(pg_catalog.=) c.oid AND ca.attnum OPERATOR(pg_catalog.>) 0)`
+
+// besideColumns: row security may hide rows, triggers and rules may keep them from being written, and partitions may be
+// attached and detached.
+const besideColumns = `c.relrowsecurity, CASE WHEN c.relhastriggers THEN ` + triggersOf + `c.oid) END,
+    CASE WHEN c.relhasrules THEN (SELECT pg_catalog.concat_ws(',', pg_catalog.count(*), pg_catalog.sum(ru.xmin::pg_catalog.text::pg_catalog.int8))
+      FROM pg_catalog.pg_rewrite ru WHERE ru.ev_class OPERATOR(pg_catalog.=) c.oid) END,
+    CASE WHEN c.relkind OPERATOR(pg_catalog.=) 'p' THEN
+      (WITH RECURSIVE parts AS (SELECT h.inhrelid, h.xmin FROM pg_catalog.pg_inherits h WHERE h.inhparent OPERATOR(pg_catalog.=) c.oid
+        UNION ALL SELECT h.inhrelid, h.xmin FROM parts JOIN pg_catalog.pg_inherits h ON h.inhparent OPERATOR(pg_catalog.=) parts.inhrelid)
+      SELECT pg_catalog.string_agg(pg_catalog.concat_ws(' ', parts.inhrelid, parts.xmin, ` + triggersOf + `parts.inhrelid)), ','
+        ORDER BY parts.inhrelid) FROM parts) END`
+
+const triggersOf = `(SELECT pg_catalog.concat_ws(',', pg_catalog.count(*), pg_catalog.sum(tg.xmin::pg_catalog.text::pg_catalog.int8))
+      FROM pg_catalog.pg_trigger tg WHERE NOT tg.tgisinternal AND tg.tgrelid OPERATOR(pg_catalog.=) `
+
 // MadeSQL is a text that changes with what somebody has made by the names that conditions use: operators, implicit casts,
-// functions that make ranges.
+// functions that make ranges. It changes with the labels of enumerations, too.
 const MadeSQL = `pg_catalog.concat_ws(' ',
   (SELECT pg_catalog.concat_ws(',', pg_catalog.count(*), pg_catalog.sum(mo.xmin::pg_catalog.text::pg_catalog.int8))
    FROM pg_catalog.pg_operator mo WHERE mo.oid OPERATOR(pg_catalog.>=) 16384::pg_catalog.oid AND mo.oprname OPERATOR(pg_catalog.=)
@@ -137,7 +154,9 @@ const MadeSQL = `pg_catalog.concat_ws(' ',
    FROM pg_catalog.pg_cast mc WHERE mc.oid OPERATOR(pg_catalog.>=) 16384::pg_catalog.oid AND mc.castcontext OPERATOR(pg_catalog.=) 'i'),
   (SELECT pg_catalog.concat_ws(',', pg_catalog.count(*), pg_catalog.sum(mp.xmin::pg_catalog.text::pg_catalog.int8))
    FROM pg_catalog.pg_proc mp WHERE mp.oid OPERATOR(pg_catalog.>=) 16384::pg_catalog.oid AND mp.proname OPERATOR(pg_catalog.=)
-     ANY ('{int4range,int8range,numrange,tsrange,tstzrange,daterange}'::pg_catalog.name[])))`
+     ANY ('{int4range,int8range,numrange,tsrange,tstzrange,daterange}'::pg_catalog.name[])),
+  (SELECT pg_catalog.concat_ws(',', pg_catalog.count(*), pg_catalog.sum(me.xmin::pg_catalog.text::pg_catalog.int8))
+   FROM pg_catalog.pg_enum me))`
 
 var madeSQL = own.SQL(`SELECT ` + MadeSQL)
 

@@ -380,6 +380,7 @@ func (o *oracle) search() {
 			}
 		}
 	}
+	o.file()
 	for _, its := range o.made {
 		o.index.Drop(its.Key())
 	}
@@ -397,7 +398,7 @@ func (o *oracle) summary() {
 	sort.Strings(all)
 	o.t.Log(strings.Join(all, "\n"))
 	for _, name := range []string{"has a parameter in binary", "has a parameter as text", "has IN", "has ANY", "has LIKE", "has a range",
-		"has a column of its own", "has BETWEEN", "has IS NULL", "has DISTINCT", "has IS TRUE", "not tried by the index", "has NULL", "is yes", "is no", "is null"} {
+		"has a column of its own", "has BETWEEN", "has IS NULL", "has DISTINCT", "has IS TRUE", "not tried by the index", "not tried by rows", "has NULL", "is yes", "is no", "is null"} {
 		if o.counts[name] < 5 {
 			o.t.Errorf("%s: only %d", name, o.counts[name])
 		}

@@ -22,6 +22,7 @@ type load struct {
 	place uint64
 	at    [33]uint64
 	bytes int
+	asks  func(*record.Transaction, *record.Commit) // nil if none does
 }
 
 func newLoad(keys int) *load {
@@ -54,6 +55,9 @@ func (l *load) transaction() {
 		}
 	}
 	it.Statements = []record.Statement{{Text: "SELECT balance FROM accounts WHERE id = $1", At: l.now}}
+	if l.asks != nil {
+		l.asks(&it, &commit)
+	}
 	l.now = l.now.Add(100 * time.Microsecond)
 	it.Ended = l.now
 	l.core.now = l.now

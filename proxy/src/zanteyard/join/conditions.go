@@ -47,6 +47,7 @@ const (
 	mostRegisters = 256     // of a question
 	mostMarks     = 64      // registers that one transaction writes
 	mostFresh     = 1 << 14 // versions whose writers aren't offered yet, in one table
+	mostCaughtUp  = 512     // of these, how many are looked at for a new condition that asks for no value
 )
 
 // conditions are those that are known.
@@ -71,7 +72,8 @@ type tableAsks struct {
 	all    map[*question]bool
 	others []*question // those that the index doesn't have
 	fresh  []fresh
-	gap    uint64 // the last commit in which a change of one of its rows is missing, or its values
+	filed  condition.Rows // of fresh
+	gap    uint64         // the last commit in which a change of one of its rows is missing, or its values
 }
 
 // fresh is a version whose writer isn't offered yet, and may still write registers.
@@ -195,7 +197,7 @@ func (q *conditions) forgetTable(relation record.Relation, at uint64) {
 		return
 	}
 	q.forgetAll(relation)
-	its.fresh, its.gap = nil, at
+	its.fresh, its.filed, its.gap = nil, condition.Rows{}, at
 }
 
 // forgetAll drops all conditions of a table: what was asked by them isn't known any more.
@@ -385,7 +387,7 @@ func (c *core) changes(its []fresh) {
 			c.changeAll(table, it)
 		}
 		if len(table.fresh) >= mostFresh {
-			table.fresh = append(table.fresh[:0], table.fresh[mostFresh/2:]...)
+			table.fresh, table.filed = append(table.fresh[:0], table.fresh[mostFresh/2:]...), condition.Rows{}
 		}
 		table.fresh = append(table.fresh, it)
 	}
@@ -424,12 +426,29 @@ func asRow(it record.Row) *condition.Row {
 	return row
 }
 
-// catchUp makes the versions whose writers aren't offered yet write the registers of a new question.
+// catchUp makes the versions whose writers aren't offered yet write the registers of a new question: those that may matter
+// to it, by their values, or the last ones, if its condition asks for no value.
 func (c *core) catchUp(q *question, table *tableAsks) {
-	table.forgetDone()
-	for _, it := range table.fresh {
+	from := 0
+	if it, is := q.its.(*condition.Condition); is {
+		if table.filed.Find(it, len(table.fresh), table.rowsAt, func(at int) { c.change(q, table.fresh[at]) }) {
+			return
+		}
+		if from = len(table.fresh) - mostCaughtUp; from > 0 {
+			c.counts.leftPassed[tooManyChanges] += uint64(from)
+		} else {
+			from = 0
+		}
+	}
+	for _, it := range table.fresh[from:] {
 		c.change(q, it)
 	}
+}
+
+// rowsAt are a fresh version's rows, as far as they are known: afterwards, and before.
+func (t *tableAsks) rowsAt(place int) [3]*condition.Row {
+	it := &t.fresh[place]
+	return [3]*condition.Row{it.version.values, it.before(), asRow(it.was)}
 }
 
 // forgetDone forgets versions whose writers write no more registers.
@@ -442,6 +461,9 @@ func (t *tableAsks) forgetDone() {
 	}
 	for i := len(kept); i < len(t.fresh); i++ {
 		t.fresh[i] = fresh{}
+	}
+	if len(kept) < len(t.fresh) {
+		t.filed = condition.Rows{}
 	}
 	if t.fresh = kept; len(kept) == 0 {
 		t.fresh = nil

@@ -22,6 +22,7 @@ const (
 	askContradicts   = "a row that each version it may have seen satisfies"
 	askGap           = "a row of which a change may be missing"
 	tooManyRegisters = "more rows than are kept of one condition"
+	tooManyChanges   = "changes from before their condition was known, more than are looked at"
 	tooManyPassed    = "more rows than are kept of one transaction's conditions"
 )
 
@@ -215,6 +216,9 @@ func (c *core) resolveRegister(e *entry, it *asking, at *row, to *resolution, nu
 		return true
 	}
 	its, reason := c.maySee(e, it, on)
+	if reason == askOwn && it.its.Writes {
+		return true // it got the row, or had written it before
+	}
 	if reason != "" {
 		to.leavePassed(reason)
 		return true

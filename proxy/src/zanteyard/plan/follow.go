@@ -10,7 +10,7 @@ import (
 	"zanteyard/record"
 )
 
-// follow is what a SELECT asks its only table for, if that is a condition that is followed.
+// follow is what a SELECT, an UPDATE or a DELETE asks its only table for, if that is a condition that is followed.
 type follow struct {
 	form      *condition.Form
 	columns   record.Identity
@@ -38,6 +38,24 @@ func (m *maker) asksBy(p *Plan, body node) {
 	}
 }
 
+// asksToWrite decides the same of an UPDATE or a DELETE.
+func (m *maker) asksToWrite(p *Plan, name string, body node, others string) {
+	switch {
+	case !m.catalog.WithConditions():
+		return
+	case body.has(others):
+		p.NotFollowed = severalTables
+		return
+	case len(p.Unseen) > 0:
+		p.NotFollowed = p.Unseen[0].Reason
+		return
+	}
+	f, reason := m.followBy(name, body)
+	if p.follow = f; f == nil {
+		p.NotFollowed = reason
+	}
+}
+
 func (m *maker) follow(p *Plan, body node) (*follow, string) {
 	switch {
 	case len(p.Unseen) > 0:
@@ -59,7 +77,11 @@ func (m *maker) follow(p *Plan, body node) (*follow, string) {
 	case m.setReturning(map[string]any(body)):
 		return nil, aSetFunction
 	}
-	form, err := condition.Make(map[string]any{"SelectStmt": map[string]any(body)}, m.joined, m.catalog)
+	return m.followBy("SelectStmt", body)
+}
+
+func (m *maker) followBy(name string, body node) (*follow, string) {
+	form, err := condition.Make(map[string]any{name: map[string]any(body)}, m.joined, m.catalog)
 	if err != nil {
 		return nil, err.Error()
 	}
@@ -86,10 +108,10 @@ func (m *maker) follow(p *Plan, body node) (*follow, string) {
 	return f, ""
 }
 
-// Follows reports whether what a SELECT asks its table for is followed: Asks returns it.
+// Follows reports whether what a statement asks its table for is followed: Asks returns it.
 func (p *Plan) Follows() bool { return p.follow != nil }
 
-// Question is what a SELECT asks a table for.
+// Question is what a statement asks a table for.
 type Question struct {
 	By       *condition.Condition
 	Identity record.Identity // of the table's key
@@ -107,7 +129,7 @@ func (p *Plan) Asks(text string, tokens Tokens, with condition.Arguments) (Quest
 		with.Constants[i] = text[tokens.follow[i].from:tokens.follow[i].to]
 	}
 	with.Left = tokens.left
-	q := Question{Identity: p.Sources[0].Identity, Columns: f.columns, Most: math.MaxUint64}
+	q := Question{Identity: f.form.Table.Identity, Columns: f.columns, Most: math.MaxUint64}
 	if f.limited {
 		at := span{}
 		if f.limit.parameter == 0 {

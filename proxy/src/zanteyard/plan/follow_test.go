@@ -17,7 +17,10 @@ import (
 func TestFollowed(t *testing.T) {
 	connection := connect(t, fmt.Sprint("followed_", time.Now().UnixNano()), `CREATE TABLE r (id int PRIMARY KEY, a int, b text COLLATE "C", free bool, during int4range);
 		CREATE TABLE other (id int PRIMARY KEY, a int); CREATE TABLE hidden (a int);
-		CREATE TABLE secret (id int PRIMARY KEY, a int); ALTER TABLE secret ENABLE ROW LEVEL SECURITY`)
+		CREATE TABLE secret (id int PRIMARY KEY, a int); ALTER TABLE secret ENABLE ROW LEVEL SECURITY;
+		CREATE TABLE triggered (id int PRIMARY KEY, a int); CREATE FUNCTION nothing() RETURNS trigger LANGUAGE plpgsql AS 'BEGIN RETURN NULL; END';
+		CREATE TRIGGER no BEFORE UPDATE ON triggered FOR EACH ROW EXECUTE FUNCTION nothing();
+		CREATE TABLE ruled (id int PRIMARY KEY, a int); CREATE RULE no AS ON UPDATE TO ruled DO INSTEAD NOTHING`)
 	known, err := catalog.Load(ctx(), cluster.Query(context.Background(), connection), catalog.WithColumns)
 	if err == nil {
 		known, err = known.In(`["public"]`)
@@ -65,7 +68,11 @@ func TestFollowed(t *testing.T) {
 		{"", "SELECT * FROM secret", "row security"}, {"", "SELECT * FROM ONLY r", "ONLY"},
 		{"", "SELECT * FROM r TABLESAMPLE system (10)", "TABLESAMPLE"}, {"", "SELECT * FROM r FOR UPDATE SKIP LOCKED", "SKIP LOCKED"},
 		{"", "SELECT * FROM r WHERE a IN (SELECT a FROM other)", "a subquery"}, {"", "SELECT id FROM r UNION SELECT id FROM other", ""},
-		{"", "UPDATE r SET a = 1 WHERE free", ""}, {"", "SELECT 1", ""}, {"", "SELECT now()", ""},
+		{"", "UPDATE r SET a = 1 WHERE free", "r WHERE free"}, {"", "DELETE FROM r WHERE a IN (1, $2)", "r WHERE a IN (1, 12)"},
+		{"", "UPDATE r SET a = 1 WHERE id = 1", "r WHERE id = 1"}, {"", "UPDATE r SET a = 1 WHERE id = 1 AND free", "r WHERE id = 1 AND free"},
+		{"", "UPDATE r SET a = 1 FROM other WHERE r.a = 1", "several tables"}, {"", "DELETE FROM secret WHERE a = 1", "row security"},
+		{"", "UPDATE triggered SET a = 1 WHERE a = 2", "a trigger may keep a row from being written"},
+		{"", "UPDATE ruled SET a = 1 WHERE a = 2", ""}, {"", "DELETE FROM r USING other WHERE r.a = other.a", "several tables"}, {"", "SELECT 1", ""}, {"", "SELECT now()", ""},
 	} {
 		if x.texts != "" {
 			cache.Plan(x.texts)

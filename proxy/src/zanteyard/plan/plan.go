@@ -137,10 +137,10 @@ type Plan struct {
 	// Ordered means that the answer may depend on how the server reads rows, if hidden columns list them or make it look
 	// into tables: then its plans with the hidden columns and without them must have the same form.
 	Ordered bool
-	// ByKey means that a SELECT asks for the rows of one table by its whole primary key, whatever else it asks.
+	// ByKey means that a statement asks for the rows of one table by its whole primary key, whatever else it asks.
 	ByKey bool
-	// NotFollowed says why what a SELECT asks tables for by a condition isn't followed; "" if it is, or asks for nothing, or
-	// no condition is followed at all.
+	// NotFollowed says why what a statement asks tables for by a condition isn't followed; "" if it is, or asks for nothing,
+	// or no condition is followed at all.
 	NotFollowed string
 	// Level is what BEGIN or SET TRANSACTION sets; UnknownLevel if they leave it unchanged.
 	Level record.Level

@@ -38,6 +38,12 @@ func (m *maker) changes(p *Plan, body node, end int, others string) {
 	}
 	key, _ := wholeKey(body["whereClause"], target, !body.has(others))
 	current, _ := only(body["whereClause"])
+	name := "UpdateStmt"
+	if m.deletes(body) {
+		name = "DeleteStmt"
+	}
+	p.ByKey = key != nil
+	m.asksToWrite(p, name, body, others)
 	if !m.mayReturn(p, body, target, key != nil || current == "CurrentOfExpr") {
 		if body.has(others) {
 			p.leaveOut("tables of an UPDATE or DELETE that it doesn't change")

@@ -76,9 +76,10 @@ type Ask struct {
 	Condition Condition
 	Identity  Identity  // of the table's key
 	Columns   Identity  // of its columns
-	Found     []Key     // the rows that it got
+	Found     []Key     // the rows that it got, unless it wrote them
 	From      time.Time // at read committed: its snapshot is no older than this
-	Wrote     bool      // the transaction may have written before
+	Wrote     bool      // the transaction may have written by then
+	Writes    bool      // it is an UPDATE or DELETE: it wrote each row that it got
 	Why       string    // why it isn't followed: then the rest is empty. "" if it is
 }
 

@@ -169,6 +169,7 @@ func (s *Session) query(o *output, m []byte, start, end int) {
 		e.asking = s.asksBy(st, condition.Arguments{})
 	} else {
 		o.pass(start, end)
+		e.asking = s.asksUnchanged(st, condition.Arguments{})
 	}
 	if st.use != nil {
 		st.use.runs = true
@@ -289,6 +290,7 @@ func (s *Session) bind(o *output, m []byte, start, end int) {
 		o.buf = b.Append(o.own(), st.name, hiddenColumns(s.names.cursors[st.plan.Name].plan))
 	default:
 		o.pass(start, end)
+		p.asking = s.asksUnchanged(st, s.arguments(b, st))
 	}
 	if s.options.Policy.Parameters && !s.options.Policy.Redacts && st.plan != nil && !beyond {
 		p.parameters, p.more = texts(b, st.types)

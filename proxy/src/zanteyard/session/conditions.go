@@ -10,7 +10,7 @@ import (
 	"zanteyard/wire"
 )
 
-// Why what a SELECT asks for by a condition isn't followed, other than what the statement itself says.
+// Why what a statement asks for by a condition isn't followed, other than what the statement itself says.
 const (
 	notRewritten = "its rows aren't seen"
 	aCursor      = "a cursor, or SQL's PREPARE"
@@ -19,6 +19,7 @@ const (
 	tooManyAsks  = "more conditions of one transaction than are kept"
 	unclearRow   = "a row whose key isn't known"
 	undoneWrite  = "asked after a write that ROLLBACK TO may have undone"
+	namesUnsure  = "an UPDATE or DELETE of whose names it isn't certain what they refer to"
 )
 
 const (
@@ -33,8 +34,10 @@ type asking struct {
 	rows  uint64
 	found []record.Key
 	why   string // why it isn't followed
-	done  bool
-	place int32 // among the transaction's, counted from 1, once it is done
+	// writes: it wrote the rows that it got, which the log tells.
+	writes bool
+	done   bool
+	place  int32 // among the transaction's, counted from 1, once it is done
 }
 
 // asksBy returns what a statement that is sent rewritten asks for, nil if no condition is followed.
@@ -44,12 +47,26 @@ func (s *Session) asksBy(st *statement, with condition.Arguments) *asking {
 	}
 	with.Converts, with.Temporary = s.converts(), !shareable(s.trust.signature)
 	with.Escapes = st.behind || s.somethingRuns()
-	it := &asking{from: s.sent}
+	it := &asking{from: s.sent, writes: st.plan.Kind == plan.Write}
 	var err error
 	if it.Question, err = st.plan.Asks(st.text, st.tokens, with); err != nil {
 		it.why = err.Error()
 	}
 	return it
+}
+
+// asksUnchanged returns what an UPDATE or DELETE asks for that is sent as it is. What its names refer to isn't tried, so it
+// has to be certain.
+func (s *Session) asksUnchanged(st *statement, with condition.Arguments) *asking {
+	if st.plan == nil || st.plan.Kind != plan.Write || !st.plan.Follows() || !s.looking() || !s.understands(st.plan) || s.replay.plain {
+		return nil
+	}
+	t := &s.trust
+	if t.doubt || !t.asks || !t.here || t.block.isPrivate || t.pooled || !shareable(t.signature) {
+		t.wanted = true
+		return nil
+	}
+	return s.asksBy(st, with)
 }
 
 // arguments are what a Bind has in the places of parameters.
@@ -75,7 +92,7 @@ func (s *Session) somethingRuns() bool {
 func (a *asking) got(reads []record.Read, failed bool) {
 	a.rows++
 	switch {
-	case a.why != "":
+	case a.why != "", a.writes:
 	case failed || len(reads) != 1:
 		a.why = unclearRow
 	case len(a.found) >= mostFound:
@@ -85,10 +102,13 @@ func (a *asking) got(reads []record.Read, failed bool) {
 	}
 }
 
-// askedBy records what a SELECT that has ended has asked for.
-func (s *Session) askedBy(p *plan.Plan, e *expectation, noted *record.Statement) {
+// askedBy records what a statement that has ended has asked for. changed says that it has written rows.
+func (s *Session) askedBy(p *plan.Plan, e *expectation, noted *record.Statement, changed bool) {
 	t, a := &s.tx, e.asking
 	if p.NotFollowed == "" && !p.Follows() || a != nil && a.done || len(t.Asks) > mostConditions {
+		return
+	}
+	if changed && p.ByKey { // no other row can satisfy it
 		return
 	}
 	why := p.NotFollowed
@@ -98,11 +118,13 @@ func (s *Session) askedBy(p *plan.Plan, e *expectation, noted *record.Statement)
 		why = tooManyAsks
 	case e.current() != p:
 		why = aCursor
+	case a == nil && p.Kind == plan.Write:
+		why = namesUnsure
 	case a == nil:
 		why = notRewritten
 	case a.why != "":
 		why = a.why
-	case a.rows >= a.Most:
+	case a.rows >= a.Most && !a.writes:
 		why = cutOff
 	default:
 		why = t.unreported()
@@ -113,7 +135,7 @@ func (s *Session) askedBy(p *plan.Plan, e *expectation, noted *record.Statement)
 	}
 	a.done = true
 	t.Asks = append(t.Asks, record.Ask{Condition: a.By, Identity: a.Identity, Columns: a.Columns, Found: a.found, From: a.from,
-		Wrote: t.mayHaveWritten()})
+		Wrote: e.wrote || changed, Writes: a.writes})
 	a.place = int32(len(t.Asks))
 	if noted != nil {
 		noted.Ask = len(t.Asks)

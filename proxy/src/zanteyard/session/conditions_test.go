@@ -3,6 +3,7 @@ package session
 import (
 	"context"
 	"fmt"
+	"sort"
 	"strings"
 	"sync"
 	"testing"
@@ -43,6 +44,7 @@ func shownAsk(one record.Ask) string {
 	for _, key := range one.Found {
 		found = append(found, string(key))
 	}
+	sort.Strings(found) // an UPDATE moves rows
 	text := one.Condition.String() + ": " + strings.Join(found, ",")
 	if one.Wrote {
 		text += " wrote"
@@ -55,7 +57,7 @@ func TestAsks(t *testing.T) {
 	needServer(t)
 	sql(t, fill)
 	p := throughAsking(t)
-	texts := []string{"SELECT v FROM t WHERE v < 30", "SELECT v FROM t WHERE v < 40 LIMIT 2", "UPDATE t SET w = 'x' WHERE id = 20",
+	texts := []string{"UPDATE t SET w = 'z' WHERE v < 20", "DELETE FROM t WHERE v = -7", "SELECT v FROM t WHERE v < 30", "SELECT v FROM t WHERE v < 40 LIMIT 2", "UPDATE t SET w = 'x' WHERE id = 20",
 		"SELECT v FROM t WHERE v < 10 AND id = 3", "SELECT count(*) FROM t", "SELECT v FROM part WHERE v = 6"}
 	for i := 0; i < 2; i++ {
 		p.warm(texts...)
@@ -79,6 +81,17 @@ func TestAsks(t *testing.T) {
 		{name: "a write that is undone", texts: []string{"BEGIN", "SELECT v FROM t WHERE v < 30", "SAVEPOINT a",
 			"UPDATE t SET w = 'x' WHERE id = 20", "SELECT v FROM t WHERE v < 20", "ROLLBACK TO a", "SELECT v FROM t WHERE v < 10", "COMMIT"},
 			want: "t WHERE v < 30: 1,2; not: asked after a write that ROLLBACK TO may have undone; t WHERE v < 10:  wrote"},
+		{name: "an UPDATE", texts: []string{"BEGIN", "UPDATE t SET w = 'z' WHERE v < 20", "COMMIT"}, want: "t WHERE v < 20:  wrote"},
+		{name: "one by itself", texts: []string{"UPDATE t SET w = 'z' WHERE v < 20"}, want: "t WHERE v < 20:  wrote"},
+		{name: "a DELETE of nothing", texts: []string{"DELETE FROM t WHERE v = -7"}, want: "t WHERE v = -7: "},
+		{name: "an UPDATE of a row by its key", texts: []string{"UPDATE t SET w = 'z' WHERE id = 1"}, want: ""},
+		{name: "an UPDATE of no row by its key", texts: []string{"BEGIN", "UPDATE t SET w = 'z' WHERE id = 1 AND v = -7", "COMMIT"},
+			want: "t WHERE id = 1 AND v = -7: "},
+		{name: "an UPDATE with a function", texts: []string{"BEGIN", "UPDATE t SET w = 'z' WHERE abs(v) = 99", "COMMIT"}, want: "not: a function"},
+		{name: "one with parameters", parsed: []pgproto3.FrontendMessage{&pgproto3.Parse{Query: "UPDATE t SET w = 'z' WHERE v IN ($1, $2)"},
+			&pgproto3.Bind{Parameters: [][]byte{[]byte("-8"), []byte("-9")}}, &pgproto3.Execute{}, &pgproto3.Sync{}}, want: "t WHERE v IN (-8, -9): "},
+		{name: "one in a pipeline", texts: []string{"BEGIN", "UPDATE t SET w = 'z' WHERE v < 20; SELECT v FROM t WHERE v < 30", "COMMIT"},
+			want: "t WHERE v < 20:  wrote; t WHERE v < 30: 1,2 wrote"},
 		{name: "what isn't followed", texts: []string{"BEGIN", "SELECT count(*) FROM t", "SELECT v FROM t WHERE v < 30", "COMMIT"},
 			want: "not: an aggregate; t WHERE v < 30: 1,2"},
 		{name: "a failure", texts: []string{"BEGIN", "SELECT v FROM t WHERE v < 30", "SELECT 1/0", "COMMIT"}, want: "t WHERE v < 30: 1,2"},

@@ -40,6 +40,7 @@ type expectation struct {
 	part     int  // which of several statements is being answered
 	pieces   []piece
 	rows     int        // rows of the statement that is being answered
+	wrote    bool       // its transaction may have written before it
 	loose    int        // of these, how many have no version
 	beyond   int        // and how many were made of more rows than are listed
 	made     uint64     // of how many rows all were made, if the plan counts them

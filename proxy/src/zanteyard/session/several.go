@@ -43,6 +43,7 @@ func (s *Session) pieces(st *statement) (string, []piece) {
 			to = append(to, rewritten...)
 		} else {
 			to = append(to, one.text...)
+			it.asking = s.asksUnchanged(one, condition.Arguments{})
 		}
 		s.before(p)
 		it.era = s.queue.era

@@ -377,6 +377,7 @@ func (s *Session) notLooked(e *expectation, tag []byte) {
 
 func (s *Session) did(p *plan.Plan, e *expectation, tag []byte) {
 	t := &s.tx
+	e.wrote = t.mayHaveWritten()
 	s.levels(p, e)
 	t.borrows = t.borrows || p.TakesSnapshot
 	switch p.Kind {
@@ -493,7 +494,8 @@ func (s *Session) leftOut(p *plan.Plan, e *expectation, noted *record.Statement,
 	if e.use != nil {
 		s.trust.ran(e.use, e.changed)
 	}
-	s.askedBy(rows(p), e, noted)
+	_, n := counted(tag)
+	s.askedBy(rows(p), e, noted, p.Kind == plan.Write && n > 0)
 	s.sums(p, e, tag, reason)
 	if e.hidden > 0 && p.Asked && e.rows == 0 {
 		s.absent(p, e, noted)

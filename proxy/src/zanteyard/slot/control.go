@@ -163,9 +163,8 @@ func (c *Control) place(ctx context.Context) (join.Place, error) {
 		if len(rows) != 1 || len(rows[0]) < 4 {
 			return join.Place{}, errForm
 		}
-		if len(rows[0]) > 4 && c.tables.remade(rows[0][4]) {
-			c.remade = true
-		}
+		remade := len(rows[0]) > 4 && c.tables.remade(rows[0][4])
+		c.remade = c.remade || remade
 		at, ok := parsePlace(rows[0][0])
 		if !ok {
 			return join.Place{}, errForm
@@ -175,7 +174,7 @@ func (c *Control) place(ctx context.Context) (join.Place, error) {
 			return join.Place{}, err
 		}
 		switch {
-		case rows[0][1] == c.tables.usedStamp() && !(c.tables.Missing() && c.mayReload()):
+		case !remade && rows[0][1] == c.tables.usedStamp() && !(c.tables.Missing() && c.mayReload()):
 			place.Rewritten = append(c.rewritten, c.tables.versions(rows[0][3])...)
 			place.Remade = c.remade
 			return place, nil
@@ -224,20 +223,17 @@ var placeSQL = own.SQL(placeBegin + placeFrom + stampOfOne + placeEnd)
 
 // The same for an audit that wants rows' values: a stamp then changes with each column. The last value changes with what
 // operators and the like mean.
-const valuesStampOfOne = valuesStamp + catalog.ColumnsSQL + ")"
-
-const valuesStamp = "pg_catalog.concat_ws(' ', c.oid, n.nspname, c.relname, c.relispartition, c.relreplident, i.indisreplident, " + catalog.IdentitySQL + ", "
+const valuesStampOfOne = "pg_catalog.concat_ws(' ', c.oid, n.nspname, c.relname, c.relispartition, c.relreplident, i.indisreplident, " +
+	catalog.IdentitySQL + ", " + catalog.ColumnsStampSQL + ")"
 
 var valuesPlaceSQL = own.SQL(placeBegin + ", " + catalog.MadeSQL + placeFrom + valuesStampOfOne + placeEnd)
 
 // columnsSQL returns the columns of tables, other than partitions, whose rows' values may be wanted. What a table's
 // columns mean takes long to tell, so it is told once for each table.
-var columnsSQL = own.SQL(`WITH meaning AS (SELECT c.oid, ` + catalog.ColumnsSQL + ` AS its FROM pg_catalog.pg_class c
-  JOIN pg_catalog.pg_namespace n ON n.oid = c.relnamespace
-  WHERE c.relkind IN ('r', 'p') AND c.relpersistence = 'p' AND n.nspname NOT IN ('pg_catalog', 'information_schema') OFFSET 0),
-stamped AS (SELECT c.oid, meaning.its, ` + valuesStamp + `meaning.its) AS stamp
-  FROM meaning JOIN pg_catalog.pg_class c ON c.oid = meaning.oid JOIN pg_catalog.pg_namespace n ON n.oid = c.relnamespace
-  LEFT JOIN pg_catalog.pg_index i ON i.indrelid = c.oid AND i.indisprimary OFFSET 0)
+var columnsSQL = own.SQL(`WITH stamped AS (SELECT c.oid, ` + catalog.ColumnsSQL + ` AS its, ` + valuesStampOfOne + ` AS stamp
+  FROM pg_catalog.pg_class c JOIN pg_catalog.pg_namespace n ON n.oid = c.relnamespace
+  LEFT JOIN pg_catalog.pg_index i ON i.indrelid = c.oid AND i.indisprimary
+  WHERE c.relkind IN ('r', 'p') AND c.relpersistence = 'p' AND n.nspname NOT IN ('pg_catalog', 'information_schema') OFFSET 0)
 SELECT c.oid, c.its, c.stamp, a.attname, a.attnum,
   CASE WHEN t.typtype = 'e' THEN 3500 WHEN t.typname = 'citext' THEN 25 ELSE t.oid END
 FROM stamped c
@@ -454,8 +450,15 @@ func (c *Control) reload(ctx context.Context) ([]record.Relation, []join.Rewritt
 	return changed, rewritten, nil
 }
 
-// columns reads the tables' columns.
+var madeSQL = own.SQL("SELECT " + catalog.MadeSQL)
+
+// columns reads the tables' columns. What is made meanwhile is noticed by the next place.
 func (c *Control) columns(ctx context.Context, all []*Table) error {
+	if made, err := c.one(ctx, madeSQL); err != nil {
+		return fmt.Errorf("read the catalog: %w", err)
+	} else if !c.tables.knowsMade() {
+		c.tables.remade(made)
+	}
 	rows, err := c.ask(ctx, columnsSQL)
 	if err != nil {
 		return fmt.Errorf("read the catalog: %w", err)

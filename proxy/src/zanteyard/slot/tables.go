@@ -264,6 +264,12 @@ func (t *Tables) SameColumns(relation record.Relation, identity record.Identity)
 	return its != nil && its.shape != 0 && catalog.ColumnsIdentity(its.shape, t.made) == identity
 }
 
+func (t *Tables) knowsMade() bool {
+	t.lock.RLock()
+	defer t.lock.RUnlock()
+	return t.made != 0
+}
+
 // remade takes over what operators and the like mean now (catalog.MadeSQL), and reports whether that has changed.
 func (t *Tables) remade(text string) bool {
 	is := catalog.IdentityOf(text)

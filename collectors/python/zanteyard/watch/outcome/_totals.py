@@ -59,8 +59,8 @@ class Total:
 
 @dataclass(frozen=True)
 class Conditions:
-    """What SELECTs asked for by conditions, in reported transactions. Of a followed one, the rows
-    that it passed over are checked, too, but for those that are left out."""
+    """What statements asked for by conditions, in reported transactions. Of a followed one, the
+    rows that it passed over are checked, too, but for those that are left out."""
 
     seen: int = 0
     followed: int = 0
@@ -88,7 +88,7 @@ class Conditions:
         if not self.seen:
             return
         yield (
-            f"{counted(self.seen, 'condition')} of SELECTs, {self.followed:,} of them followed: "
+            f"{counted(self.seen, 'condition')} of statements, {self.followed:,} followed: "
             f"{counted(self.passed_over, 'row')} that they passed over were checked, too"
         )
         for its, one, rest in (

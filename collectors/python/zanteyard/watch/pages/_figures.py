@@ -92,7 +92,7 @@ def families(status: Status) -> Iterator[Family]:
 
 def _conditions(its: Conditions) -> Iterator[Family]:
     for name, count, about in (
-        ("seen", its.seen, "Conditions of SELECTs."),
+        ("seen", its.seen, "Conditions of statements."),
         ("followed", its.followed, "Conditions of which what they passed over was checked."),
         ("dropped", its.dropped, "Conditions that were forgotten to make room."),
     ):

@@ -204,6 +204,36 @@ func (c *phantomClient) select_(t *phantomTxn, own map[int]bool) error {
 	return nil
 }
 
+// changes runs a statement that writes. What it passed over it has read, as SELECT .. FOR UPDATE does. The proxy learns what
+// it got from the log.
+func (c *phantomClient) changes(t *phantomTxn, own map[int]bool, text string, by *phantomCondition) ([][]string, error) {
+	if by == nil {
+		return c.ask(text + " RETURNING id, tag")
+	}
+	before, err := c.ask("SELECT pg_current_snapshot()")
+	if err != nil {
+		return nil, err
+	}
+	rows, err := c.ask(text + " RETURNING id, tag")
+	if err != nil {
+		return nil, err
+	}
+	after, err := c.ask("SELECT pg_current_snapshot()")
+	if err != nil {
+		return nil, err
+	}
+	it := phantomAsk{by: *by, found: map[int]string{}, own: map[int]bool{}, locks: true, before: snapOf(before[0][0]), after: snapOf(after[0][0])}
+	for k := range own {
+		it.own[k] = true
+	}
+	for _, row := range rows {
+		k, _ := strconv.Atoi(row[0])
+		it.own[k] = true
+	}
+	t.asks = append(t.asks, it)
+	return rows, nil
+}
+
 func (c *phantomClient) write(t *phantomTxn, own map[int]bool) error {
 	key, a, b := 1+c.r.Intn(phantomKeys), strconv.Itoa(c.r.Intn(3)), c.r.Intn(4)
 	if c.r.Intn(8) == 0 {
@@ -211,7 +241,8 @@ func (c *phantomClient) write(t *phantomTxn, own map[int]bool) error {
 	}
 	undone, deletes := c.r.Intn(8) == 0, false
 	text := ""
-	switch c.r.Intn(6) {
+	var by *phantomCondition // what it asks by
+	switch c.r.Intn(7) {
 	case 0, 1:
 		text = fmt.Sprintf("INSERT INTO %s VALUES (%d, %s, %d, '%s') ON CONFLICT DO NOTHING", c.table, key, a, b, t.tag)
 	case 2:
@@ -219,7 +250,12 @@ func (c *phantomClient) write(t *phantomTxn, own map[int]bool) error {
 	case 3:
 		text = fmt.Sprintf("UPDATE "+c.table+" SET b = %d, tag = '%s' WHERE id = %d", b, t.tag, key)
 	case 4:
-		text = fmt.Sprintf("UPDATE "+c.table+" SET b = %d, tag = '%s' WHERE a = %d AND id > 0", b, t.tag, c.r.Intn(3))
+		its := someCondition(c.r)
+		text, by = fmt.Sprintf("UPDATE "+c.table+" SET b = %d, tag = '%s' WHERE %s AND id > 0", b, t.tag, its.text), &its
+	case 5:
+		its := conditionOf(3, c.r.Intn(3), c.r.Intn(3))
+		deletes = true
+		text, by = fmt.Sprintf("DELETE FROM %s WHERE %s AND id > 0", c.table, its.text), &its
 	default:
 		deletes = true
 		text = fmt.Sprintf("DELETE FROM %s WHERE id = %d", c.table, key)
@@ -229,7 +265,7 @@ func (c *phantomClient) write(t *phantomTxn, own map[int]bool) error {
 			return err
 		}
 	}
-	rows, err := c.ask(text + " RETURNING id, tag")
+	rows, err := c.changes(t, own, text, by)
 	if err != nil {
 		return err
 	}
