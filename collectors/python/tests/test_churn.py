@@ -5,7 +5,7 @@ import time
 import tracemalloc
 import unittest
 
-from zanteyard.core._outcome import RATHER_WAIT
+from zanteyard.core._outcome import Policy
 from zanteyard.live._live_auditor import LiveAuditor
 from zanteyard.program._auditor import PROGRAM, Auditor
 from zanteyard.stores.memory import MemoryStore
@@ -21,7 +21,7 @@ class Churn(unittest.TestCase):
         leave behind. One client stays, so that there are meetings."""
         store = MemoryStore()
         with Auditor(8) as auditor:
-            live = LiveAuditor(auditor, policy=RATHER_WAIT, every=200, seconds=0.2)
+            live = LiveAuditor(auditor, policy=Policy(SOON, begins_anew=False), every=200, seconds=0.2)
             self.stays = live.session(store.connect())
             self.come_and_go(live, store)
             tracemalloc.start()
