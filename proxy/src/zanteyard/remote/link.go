@@ -2,8 +2,10 @@ package remote
 
 import (
 	"context"
+	"crypto/tls"
 	"errors"
 	"fmt"
+	"net"
 	"net/url"
 	"strconv"
 	"strings"
@@ -16,7 +18,11 @@ import (
 type link struct {
 	url  string
 	conn redis.Conn
+	most int // how many messages are asked for at once; 0 for atOnce
 }
+
+// atOnce is how many messages are asked for at once.
+const atOnce = 64
 
 // do runs a command for which Redis may wait for some time.
 func (l *link) do(waits time.Duration, command string, arguments ...any) (any, error) {
@@ -36,10 +42,20 @@ func (l *link) do(waits time.Duration, command string, arguments ...any) (any, e
 
 // dial connects to a Redis by a URL as redis-py uses: redis://, rediss:// (TLS) or unix:///socket?db=0.
 func dial(text string) (redis.Conn, error) {
-	options := []redis.DialOption{redis.DialConnectTimeout(patience), redis.DialReadTimeout(patience), redis.DialWriteTimeout(patience)}
 	its, err := url.Parse(text)
-	if err != nil || its.Scheme != "unix" {
-		return redis.DialURL(text, options...)
+	if err != nil {
+		return nil, errors.New("can't read the URL of Redis") // the error would show a password
+	}
+	isTLS := its.Scheme == "rediss"
+	options := []redis.DialOption{redis.DialReadTimeout(patience), redis.DialWriteTimeout(patience),
+		redis.DialContextFunc(func(ctx context.Context, network, address string) (net.Conn, error) {
+			return connect(ctx, network, address, isTLS)
+		})}
+	if isTLS { // what is inside is looked at
+		its.Scheme = "redis"
+	}
+	if its.Scheme != "unix" {
+		return redis.DialURL(its.String(), options...)
 	}
 	if number := its.Query().Get("db"); number != "" {
 		database, err := strconv.Atoi(number)
@@ -52,6 +68,21 @@ func dial(text string) (redis.Conn, error) {
 		options = append(options, redis.DialUsername(its.User.Username()), redis.DialPassword(password))
 	}
 	return redis.Dial("unix", its.Path, options...)
+}
+
+// connect connects, and looks at what arrives.
+func connect(ctx context.Context, network, address string, isTLS bool) (net.Conn, error) {
+	ctx, cancel := context.WithTimeout(ctx, patience)
+	defer cancel()
+	dial := (&net.Dialer{}).DialContext
+	if isTLS {
+		dial = (&tls.Dialer{}).DialContext
+	}
+	conn, err := dial(ctx, network, address)
+	if err != nil {
+		return nil, err
+	}
+	return &guarded{Conn: conn}, nil
 }
 
 // CheckURL returns what is wrong with the URL of a Redis, as far as that can be checked without connecting.
@@ -90,7 +121,10 @@ var errReply = errors.New("remote: unexpected form of an answer from Redis")
 // read waits for a moment for the messages of a stream after an id.
 func (l *link) read(stream, after string) ([]entry, error) {
 	const wait = 200 * time.Millisecond
-	reply, err := l.do(wait, "XREAD", "COUNT", backlog, "BLOCK", wait.Milliseconds(), "STREAMS", stream, after)
+	if l.most == 0 {
+		l.most = atOnce
+	}
+	reply, err := l.do(wait, "XREAD", "COUNT", l.most, "BLOCK", wait.Milliseconds(), "STREAMS", stream, after)
 	if err != nil || reply == nil {
 		return nil, err
 	}
@@ -181,6 +215,14 @@ func stream(ctx context.Context, o *Options, name string, take func(*link, []ent
 		var entries []entry
 		if err == nil {
 			entries, err = l.read(name, after)
+		}
+		if errors.Is(err, errReplyTooLong) {
+			if l.most == 1 { // nobody who has the key has sent that: it is passed over, and what is lost by it is counted
+				after = "$"
+			}
+			l.most = 1
+		} else if err == nil {
+			l.most = 0
 		}
 		if err != nil {
 			lost(err)
