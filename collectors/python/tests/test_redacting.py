@@ -19,7 +19,9 @@ from zanteyard.live._live_auditor import LiveAuditor
 from zanteyard.program._auditor import PROGRAM, Auditor
 from zanteyard.remote._client import AuditClient
 from zanteyard.remote._server import AuditServer
+from zanteyard.stores._shown import name_of, standard, value_of
 from zanteyard.stores.memory import MemoryStore
+from zanteyard.stores.redis import shown
 
 SECRET = "4929-1234"
 STATEMENT = f"UPDATE cards SET number = '{SECRET}' WHERE id = $1 -- {SECRET}"
@@ -54,6 +56,33 @@ class Texts(unittest.TestCase):
             ("CREATE TABLE t (a int CHECK (a = b))", "CREATE TABLE t (a int CHECK (a = b))"),
         ):
             self.assertEqual(without_constants(text), wanted)
+
+    def test_statements_of_other_stores(self):
+        marks = ("'", '"', "\\", "\\'", "\\\\'", "\n", "--", "#", "`", "''", '\\"', "/*", "*/", "$$", "")
+        escapes = {39: "\\'", 34: '\\"', 92: "\\\\", 10: "\\n"}
+        for one in marks:
+            for other in marks:
+                value = f"{one}secret{other}secret{one}"
+                escaped, line = value.translate(escapes), value.replace("\n", " ")
+                comment = escaped.replace("*/", "")
+                for text in (
+                    f"INSERT INTO t VALUES ('k', '{escaped}', 'secret')",
+                    f'SELECT `a "b` FROM t WHERE v = "{escaped}" AND w = "secret"',
+                    f"SELECT 1 /* {comment} secret */, 'secret'",
+                    f"SELECT 1 # {line}\n, 'secret'",
+                ):
+                    self.assertNotIn("secret", without_constants(standard(text)), text)
+                text = f"SET {name_of(one)} {value_of(value)}"
+                self.assertNotIn("secret", without_constants(text))
+        text = "SELECT `a`, 'it\\'s', \"x''y\", 'C:\\\\' FROM t # b"
+        self.assertEqual(standard(text), "SELECT \"a\", 'it''s', 'x''''y', 'C:\\' FROM t -- b")
+
+    def test_commands_of_redis(self):
+        command = ("SET", "zanteyard:card", 'zanteyard ["4929", "run", 1, 2]', "GET")
+        text = "SET zanteyard:card 'zanteyard [\"4929\", \"run\", 1, 2]' GET"
+        self.assertEqual(shown(command), text)
+        self.assertEqual(without_constants(text), "SET zanteyard:card ? GET")
+        self.assertEqual(shown(("MGET", "it's", 'a "b')), 'MGET "it\'s" "a ""b"')
 
 
 @unittest.skipUnless(os.path.isfile(PROGRAM), f"{PROGRAM} is not built")

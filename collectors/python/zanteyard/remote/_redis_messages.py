@@ -30,6 +30,7 @@ BEAT = 0.5  # seconds between two signs of life
 WAITS = 2.0  # seconds for an answer of the Redis
 LOOKS = 0.2  # seconds that the Redis waits for a message
 ENTRIES = 4096  # messages that a stream keeps
+AT_ONCE = 64  # messages that are read at once
 EXPIRES = 3600  # seconds until the Redis drops what is left of an audit
 MOST_WAITING = 64 << 20  # bytes of one collector's messages that wait to be taken in
 PART = 1 << 20  # bytes of transactions in a message, unless one alone has more
@@ -85,7 +86,7 @@ class StreamReader:
         reached."""
         begun = time.monotonic()
         try:
-            its = self._redis.xread({self._stream: self._after}, ENTRIES, int(LOOKS * 1000))
+            its = self._redis.xread({self._stream: self._after}, AT_ONCE, int(LOOKS * 1000))
         except redis.RedisError as error:
             if begun - self.looked > SILENCE:
                 raise OSError(f"the Redis can't be reached: {error}") from error

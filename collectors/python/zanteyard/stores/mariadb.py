@@ -25,6 +25,7 @@ from ..core._store_identity import UNSURE, StoreIdentity, known_of
 from ._timeouts import LateError, within
 from ..core.errors import AbortedError, NameTakenError, OutcomeUnknownError
 from ._mariadb_connection import close_connection, limit, limited
+from ._shown import standard
 from .levels import SNAPSHOT, checked_level
 
 # Keys are compared byte by byte. Most collations treat "x", "X" and "x " as equal.
@@ -140,7 +141,7 @@ class MariaDBStore:
         self.dsn, self.level, self.table, self.patience = dict(dsn), level, quoted(table), patience
         self.lock_wait, self.locks = lock_wait, FOR_UPDATE if for_update else ""
         self.connection: Any = None
-        self.statement: str | None = None  # the last statement, as the server got it
+        self.statement: str | None = None  # the last one, with standard SQL's quotes
         self.own, self.count = f"{LAST}{secrets.token_hex(8)}", 0
         self.before = ""  # prefix of a statement that is a transaction by itself
         self.is_alone = self.is_hung_up = False
@@ -241,7 +242,7 @@ class MariaDBStore:
         cursor = self.connection.cursor()
         query = cursor.mogrify(text, values)
         cursor.execute(query)
-        self.statement = query
+        self.statement = standard(query)
         return cursor
 
     def ask(self, text: str, values: Sequence[object] = ()) -> Any:
@@ -254,7 +255,7 @@ class MariaDBStore:
             self.raise_what_it_means(error)
             raise
         if self.before and self.statement is not None:
-            self.statement = self.statement[len(self.before) :]
+            self.statement = self.statement[len(standard(self.before)) :]
         return cursor
 
     def sent_in_time(self, text: str, values: Sequence[object]) -> Any:
@@ -351,7 +352,8 @@ class MariaDBStore:
         done = self.ask(text, (key, value, *name, *own))
         self.has_written = True
         if own and self.statement is not None:  # a violation needn't show the store's own row
-            self.statement = self.statement.replace(f", {done.mogrify(ROW, own)}", "")
+            row = standard(done.mogrify(ROW, own))
+            self.statement = self.statement.replace(f", {row}", "")
         return done
 
     def commit(self) -> None:

@@ -20,6 +20,7 @@ import redis
 from ._commit_status import CommitStatus
 from ..core._records import Name, StoredValue
 from ._redis_wire import BROKEN, Command, answers, connected, limit, replies
+from ._shown import name_of, value_of
 from ..core._store_identity import UNSURE, StoreIdentity
 from ..core.errors import AbortedError, NameTakenError, OutcomeUnknownError, StoreUnfitError
 from .levels import COMPARED, SINGLE, WATCHED, checked_level
@@ -40,6 +41,14 @@ def text_of(value: object, name: Name) -> str:
     if value is not None and not isinstance(value, str) and json.loads(text)[0] != value:
         raise ValueError(f"{value!r} would be another value as JSON")
     return MARK + text
+
+
+def shown(command: Command) -> str:
+    """A command as it is shown, with the value in quotes."""
+    words = [str(command[0]), *(name_of(str(each)) for each in command[1:])]
+    if command[0] == "SET":
+        words[2] = value_of(str(command[2]))
+    return " ".join(words)
 
 
 def found_in(text: str | None) -> StoredValue | None:
@@ -168,7 +177,7 @@ class RedisStore:
             raise
 
     def told(self, *commands: Command) -> None:
-        self.statement = "; ".join(" ".join(map(str, command)) for command in commands)
+        self.statement = "; ".join(map(shown, commands))
 
     # what sessions call
 
