@@ -30,6 +30,7 @@ type Table struct {
 	OID          uint32
 	Schema, Name string
 	Kind         byte   // pg_class.relkind: r, p (partitioned), v, m, f or S
+	RowType      uint32 // the type of a whole row
 	Root         uint32 // the topmost partitioned table, or the table itself
 	Columns      []Column
 	Key          []Column // of the primary key, in its order

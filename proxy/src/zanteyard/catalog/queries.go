@@ -16,7 +16,8 @@ var tablesSQL = own.SQL(`SELECT c.oid::pg_catalog.text, n.nspname::pg_catalog.te
   coalesce(a.amname::pg_catalog.text, ''), c.relreplident::pg_catalog.text, c.relrowsecurity::pg_catalog.text,
   EXISTS (SELECT FROM pg_catalog.pg_rewrite r WHERE r.ev_class = c.oid AND r.ev_type <> '1')::pg_catalog.text,
   CASE WHEN c.relispartition THEN coalesce(pg_catalog.pg_partition_root(c.oid)::pg_catalog.oid, c.oid) ELSE c.oid END::pg_catalog.text,
-  (SELECT pg_catalog.count(*) FROM pg_catalog.pg_inherits i WHERE i.inhparent = c.oid AND c.relkind <> 'p')::pg_catalog.text
+  (SELECT pg_catalog.count(*) FROM pg_catalog.pg_inherits i WHERE i.inhparent = c.oid AND c.relkind <> 'p')::pg_catalog.text,
+  c.reltype::pg_catalog.text
 FROM pg_catalog.pg_class c JOIN pg_catalog.pg_namespace n ON n.oid = c.relnamespace
   LEFT JOIN pg_catalog.pg_am a ON a.oid = c.relam
 WHERE c.relkind IN ('r', 'p', 'v', 'm', 'f', 'S') AND c.relpersistence <> 't'
@@ -28,8 +29,10 @@ WHERE a.attnum > 0 AND NOT a.attisdropped AND c.relkind IN ('r', 'p') AND c.relp
 ORDER BY a.attrelid, a.attnum`)
 
 // IdentitySQL is the text that IdentityOf makes a key's identity from, by the row i of pg_index. The xmin of what has
-// been changed and changed back is another one. It is the same text on connections of all encodings.
-const IdentitySQL = `(SELECT pg_catalog.encode(pg_catalog.convert_to(pg_catalog.concat_ws(' ', i.indexrelid, i.indkey, pg_catalog.string_agg(pg_catalog.concat_ws(' ',
+// been changed and changed back is another one. Whether there is row security is in it, since that hides a key's row. It
+// is the same text on connections of all encodings.
+const IdentitySQL = `(SELECT pg_catalog.encode(pg_catalog.convert_to(pg_catalog.concat_ws(' ', i.indexrelid, i.indkey,
+    (SELECT tk.relrowsecurity FROM pg_catalog.pg_class tk WHERE tk.oid OPERATOR(pg_catalog.=) i.indrelid), pg_catalog.string_agg(pg_catalog.concat_ws(' ',
     ka.attnum, ka.attname, ka.atttypid, ka.xmin, (SELECT pg_catalog.string_agg(pg_catalog.concat_ws(' ', e.oid, e.enumlabel,
       e.xmin), ',' ORDER BY e.oid) FROM pg_catalog.pg_enum e, pg_catalog.pg_type kt WHERE kt.oid OPERATOR(pg_catalog.=)
       ka.atttypid AND e.enumtypid OPERATOR(pg_catalog.=) (CASE kt.typtype WHEN 'd' THEN kt.typbasetype ELSE kt.oid END))),

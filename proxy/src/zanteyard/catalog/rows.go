@@ -80,7 +80,7 @@ func (c *Catalog) takeEncoding(row []string) error {
 }
 
 func (c *Catalog) takeTable(row []string) error {
-	if err := width(row, 11); err != nil {
+	if err := width(row, 12); err != nil {
 		return err
 	}
 	oid, err := number(row, 0)
@@ -95,8 +95,12 @@ func (c *Catalog) takeTable(row []string) error {
 	if err != nil {
 		return err
 	}
+	rowType, err := number(row, 11)
+	if err != nil {
+		return err
+	}
 	t := &Table{
-		OID: oid, Schema: row[1], Name: row[2], Kind: row[3][0], Root: root, RowSecurity: row[7] == "true",
+		OID: oid, RowType: rowType, Schema: row[1], Name: row[2], Kind: row[3][0], Root: root, RowSecurity: row[7] == "true",
 		Rules: row[8] == "true", children: children,
 		system: system{persistence: row[4], method: row[5], replica: row[6]},
 	}

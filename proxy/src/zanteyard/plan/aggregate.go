@@ -31,7 +31,7 @@ const (
 
 const countOfRows = "pg_catalog.count(*)"
 
-// lists adds a list of the table's rows.
+// lists adds a list of the table's rows, with their type.
 func (h *hiding) lists(it *item) {
 	var names []string
 	for _, column := range it.table.Key {
@@ -48,6 +48,7 @@ func (h *hiding) lists(it *item) {
 			long = append(long, text)
 		}
 	}
+	row = append(row, noRow(it.name))
 	condition := "pg_catalog.clock_timestamp() OPERATOR(pg_catalog.<) (pg_catalog.statement_timestamp() " +
 		"OPERATOR(pg_catalog.+) '" + strconv.Itoa(int(listedFor.Seconds())) + "s'::pg_catalog.interval)"
 	if long != nil {
@@ -93,7 +94,7 @@ func (p *Plan) Complete(values [][]byte, isBinary bool) bool {
 		list, readable := raw(group[0], isBinary)
 		var listed uint64
 		for ; readable && len(list) > 0; listed++ {
-			_, list, readable = cutRecord(list, nil)
+			_, _, list, readable = cutRecord(list, nil)
 		}
 		ok = ok && readable && listed == rows
 	}
@@ -103,11 +104,14 @@ func (p *Plan) Complete(values [][]byte, isBinary bool) bool {
 // appendList returns the rows of a list.
 func (s *Source) appendList(to []record.Read, value []byte, isBinary bool) ([]record.Read, error) {
 	list, ok := raw(value, isBinary)
-	fields := make([][]byte, 0, 2+len(s.Types))
+	fields, last := make([][]byte, 0, 3+len(s.Types)), uint32(0)
 	var failed error
 	for ok && len(list) > 0 {
-		if fields, list, ok = cutRecord(list, fields[:0]); !ok || len(fields) != 2+len(s.Types) {
+		if fields, last, list, ok = cutRecord(list, fields[:0]); !ok || len(fields) != 3+len(s.Types) {
 			return to, fmt.Errorf("a list of rows of relation %d can't be read", s.Relation)
+		}
+		if last != s.RowType {
+			return to, ErrOtherRelation
 		}
 		if fields[0] == nil { // an outer join left it NULL
 			continue
@@ -134,29 +138,30 @@ func raw(value []byte, isBinary bool) ([]byte, bool) {
 }
 
 // cutRecord cuts the first record in its binary form off a list: how many columns it has, and the type, the length and
-// the value of each, which it appends to fields; nil stands for NULL.
-func cutRecord(list []byte, fields [][]byte) (its [][]byte, rest []byte, ok bool) {
+// the value of each, which it appends to fields; nil stands for NULL. last is the last one's type.
+func cutRecord(list []byte, fields [][]byte) (its [][]byte, last uint32, rest []byte, ok bool) {
 	const number = 4
 	if len(list) < number {
-		return fields, nil, false
+		return fields, 0, nil, false
 	}
 	columns := binary.BigEndian.Uint32(list)
 	list = list[number:]
 	for ; columns > 0; columns-- {
 		if len(list) < 2*number {
-			return fields, nil, false
+			return fields, 0, nil, false
 		}
+		last = binary.BigEndian.Uint32(list)
 		length := int32(binary.BigEndian.Uint32(list[number:]))
 		list = list[2*number:]
 		switch {
 		case length == -1:
 			fields = append(fields, nil)
 		case length < 0 || int64(length) > int64(len(list)):
-			return fields, nil, false
+			return fields, 0, nil, false
 		default:
 			fields = append(fields, list[:length:length])
 			list = list[length:]
 		}
 	}
-	return fields, list, true
+	return fields, last, list, true
 }

@@ -34,6 +34,23 @@ func (m *maker) askedPart(column catalog.Column, value any) (askedPart, bool) {
 	return m.valuePart(column.Type, value)
 }
 
+const firstMade = 16384 // types below this are the server's own
+
+// isOwnEquality reports whether a column is compared by an operator of the server's own: one that somebody has made may
+// say of no row that it has the key.
+func (m *maker) isOwnEquality(column catalog.Column) bool {
+	for _, other := range m.catalog.OperatorsElsewhere("=") {
+		for _, takes := range []uint32{other.Left, other.Right} {
+			isAny := takes < firstMade && !keys.Known(takes) // as anyelement is
+			if takes == column.Declared || takes == column.Base || takes == column.Type || isAny ||
+				keys.IsText(takes) && keys.IsText(column.Type) {
+				return false
+			}
+		}
+	}
+	return true
+}
+
 func (m *maker) limitPart(value any) (askedPart, bool) {
 	part, ok := m.valuePart(0, value)
 	return part, ok && part.parameter == 0 && !part.negative && m.tokens[part.token].kind == numberToken

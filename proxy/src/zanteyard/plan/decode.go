@@ -37,10 +37,15 @@ func (p *Plan) AppendReads(to []record.Read, values [][]byte, binary bool) ([]re
 		at += source.Hidden()
 		if source.Listed {
 			var err error
-			if to, err = source.appendList(to, group[0], binary); err != nil {
+			if to, err = source.appendList(to, group[0], binary); err == ErrOtherRelation {
+				return to, err
+			} else if err != nil {
 				failed = err
 			}
 			continue
+		}
+		if source.RowType != 0 && !source.hasType(group[len(group)-1], binary) {
+			return to, ErrOtherRelation
 		}
 		if group[0] == nil {
 			continue

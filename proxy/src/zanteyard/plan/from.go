@@ -37,6 +37,7 @@ type item struct {
 	natural  bool
 	converts bool // the connection's texts are in another encoding than the server's
 	listed   bool // the rows that an aggregate was made of are listed
+	typed    bool // no description shows over which relation the statement is run
 }
 
 // read reads a statement's FROM clause and what the rest of the statement mentions.
@@ -143,7 +144,7 @@ func (m *maker) newItem(r node, t *catalog.Table, at place, sampled bool) *item 
 	it := &item{
 		table: t, name: r.text("relname"), written: quote(r.text("relname")), nullable: at.nullable,
 		only: !r.flag("inh"), sampled: sampled, optional: at.optional, natural: at.natural,
-		converts: m.catalog.Converts,
+		converts: m.catalog.Converts, typed: m.prepared,
 	}
 	if schema := r.text("schemaname"); schema != "" {
 		it.written = quote(schema) + "." + it.written
@@ -209,12 +210,16 @@ func (it *item) source() Source {
 	for i, column := range it.table.Key {
 		types[i] = column.Type
 	}
-	return Source{
+	source := Source{
 		Relation: record.Relation(it.table.OID), Identity: it.table.Identity, Converts: it.converts, Types: types,
 		Nullable: it.nullable, Listed: it.listed,
 	}
+	if it.listed || it.typed {
+		source.RowType = it.table.RowType
+	}
+	return source
 }
 
 func (it *item) relation() relation {
-	return relation{name: it.written, oid: it.table.OID, columns: keyNumbers(it.table)}
+	return relation{name: it.written, oid: it.table.OID, columns: keyNumbers(it.table), whole: it.listed || it.typed}
 }

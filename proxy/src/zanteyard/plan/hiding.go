@@ -20,9 +20,8 @@ import (
 type hiding struct {
 	sole   bool // the statement has no other table
 	values []string
-	proofs []string // queries that are refused if a column isn't there
+	proofs []string // queries that are refused if a column isn't there; they are put in front of the first value
 	names  []string // of the columns that are looked up, except for the system's
-	proved int      // the value that the proofs are put in front of
 	// If rows that share columns are listed by a window: these, that window, and that of all rows.
 	by        []shared
 	over, all string
@@ -34,7 +33,7 @@ func (h *hiding) value(text string) { h.values = append(h.values, text) }
 // version adds which transaction wrote a row.
 func (h *hiding) version(it *item) { h.system(it, nil) }
 
-// reads adds a row's version, its table and its key.
+// reads adds a row's version, its table and its key, and the type of the table's rows if nothing else shows it.
 func (h *hiding) reads(it *item) {
 	var names []string
 	for _, column := range it.table.Key {
@@ -44,6 +43,9 @@ func (h *hiding) reads(it *item) {
 	h.value(h.of(it, "tableoid"))
 	for i, column := range it.table.Key {
 		h.value(keys.Expression(column.Type, h.of(it, names[i]), it.converts))
+	}
+	if it.typed {
+		h.value(rowType(it.name))
 	}
 }
 
@@ -64,9 +66,6 @@ func (h *hiding) of(it *item, column string) string {
 
 // proves adds the query of one table.
 func (h *hiding) proves(table string, columns []string) {
-	if len(h.proofs) == 0 {
-		h.proved = len(h.values)
-	}
 	proof := "EXISTS (SELECT " + strings.Join(append([]string{"xmin, tableoid"}, columns...), ", ") + " FROM " + table +
 		" AS " + alias + ")"
 	if !contains(h.proofs, proof) {
@@ -111,7 +110,7 @@ func (h *hiding) wall() string {
 // text returns all hidden columns.
 func (h *hiding) text() string {
 	for i, value := range h.values {
-		if i == h.proved && len(h.proofs) > 0 {
+		if i == 0 && len(h.proofs) > 0 {
 			value = "CASE WHEN false AND EXISTS (SELECT FROM " + h.wall() + " WHERE " +
 				strings.Join(h.proofs, " AND ") + ") THEN NULL ELSE " + value + " END"
 		}

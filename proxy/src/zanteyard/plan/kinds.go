@@ -229,7 +229,7 @@ func (m *maker) wrapped(p *Plan, stmt statement, kind Kind, name string, body no
 		m.other(p.Inner, inner, query)
 		return p
 	}
-	m.cursor = kind == Declare
+	m.cursor, m.prepared = kind == Declare, kind == Prepare
 	p.Inner = m.query(stmt, inner, query, start)
 	p.insertion, p.Inner.insertion = p.Inner.insertion, insertion{}
 	p.positions, p.Inner.positions = p.Inner.positions, nil

@@ -21,6 +21,9 @@ type maker struct {
 	configs []int // the tokens of the names that set_config sets, nowhere for one that is no constant
 	renames bool  // something else may change what names mean
 	cursor  bool  // the statement declares one
+	// prepared: it is SQL's PREPARE. EXECUTE runs a statement before the server describes its result, so definitions may have
+	// changed in between.
+	prepared bool
 }
 
 func newMaker(c *catalog.Catalog, s *scanner) *maker {
@@ -184,6 +187,9 @@ func (m *maker) shorten() string {
 	value := values{}
 	for i, t := range m.tokens {
 		word := m.word(i)
+		if i > 0 && continues(m.tokens[i-1], t) {
+			continue
+		}
 		if value.is(t.kind, word) {
 			word = "?"
 		}

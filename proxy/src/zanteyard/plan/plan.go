@@ -69,12 +69,18 @@ type Source struct {
 	Nullable bool
 	// Listed means that the group is one column: a list of the table's rows that an aggregate was made of.
 	Listed bool
+	// RowType is the type of the relation's rows, which a list has for each of its rows, and else the group's last column; 0
+	// if they don't have it, since the result's description shows the relation (IsOver).
+	RowType uint32
 }
 
 // Hidden returns the number of columns in the group.
 func (s Source) Hidden() int {
-	if s.Listed {
+	switch {
+	case s.Listed:
 		return 1
+	case s.RowType != 0:
+		return 3 + len(s.Types)
 	}
 	return 2 + len(s.Types)
 }
@@ -171,6 +177,7 @@ type Plan struct {
 	sample    string
 	rests     *atomic.Int64 // until when it isn't used, in nanoseconds; nil if it never rests
 	relations []relation
+	target    uint32       // the relation whose row's version TellsVersion has
 	ranges    []tokenRange // of Parts
 }
 
@@ -193,6 +200,7 @@ type relation struct {
 	name    string // as in the statement, quoted
 	oid     uint32
 	columns []int16 // of the key, by number; all of them and the system columns have to be readable
+	whole   bool    // all columns have to be
 }
 
 // Hidden returns the number of hidden columns after those of the statement.
@@ -234,6 +242,9 @@ func (p *Plan) HiddenTypes() []uint32 {
 		types = append(types, xid, oid)
 		for _, typeOID := range s.Types {
 			types = append(types, keys.ExpressionType(typeOID, s.Converts))
+		}
+		if s.RowType != 0 {
+			types = append(types, oid)
 		}
 	}
 	return types

@@ -16,7 +16,8 @@ func Redacted(text string) string {
 		if i > 0 && t.start > behind {
 			out.WriteByte(' ')
 		}
-		if word := text[t.start:t.end]; value.is(t.kind, word) {
+		if word := text[t.start:t.end]; i > 0 && continues(s.tokens[i-1], t) {
+		} else if value.is(t.kind, word) {
 			out.WriteByte('?')
 		} else {
 			out.WriteString(word)
@@ -24,6 +25,11 @@ func Redacted(text string) string {
 		behind = t.last
 	}
 	return out.String()
+}
+
+// continues reports whether a token is the rest of a number, as newer servers write them: 0xFF, 1_000.
+func continues(number, t token) bool {
+	return number.kind == numberToken && t.start == number.last && (t.kind == wordToken || t.kind == numberToken)
 }
 
 // values tells constants from the other tokens of a statement, or of several. A setting's value may be written as a word,

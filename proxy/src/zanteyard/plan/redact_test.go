@@ -15,11 +15,23 @@ func TestRedacted(t *testing.T) {
 		"CREATE TABLE t (a int CHECK (a = b))":                         "CREATE TABLE t (a int CHECK (a = b))",
 		"SET SESSION TIME ZONE secret":                                 "SET SESSION TIME ZONE ?",
 		"UPDATE t SET a = b":                                           "UPDATE t SET a = b",
-		"":                                                             "",
-		"SELECT 'unfinished":                                           "(a very long or incomplete statement)",
+		"SELECT 0xDEADBEEF, 0o17, 1_000_000, 4_929.5_1e1_0, 0b1":       "SELECT ?, ?, ?, ??, ?",
+		"":                   "",
+		"SELECT 'unfinished": "(a very long or incomplete statement)",
 	} {
 		if got := Redacted(text); got != want {
 			t.Errorf("%s: %s, and not %s", text, got, want)
 		}
+	}
+}
+
+// TestShapesOfNumbers: the shape of a statement has no constant, either.
+func TestShapesOfNumbers(t *testing.T) {
+	var s scanner
+	if s.scan("SELECT v FROM t WHERE id = 4_929_123 OR id = 0xFF"); len(s.tokens) == 0 {
+		t.Fatal("it isn't read")
+	}
+	if shape := newMaker(nil, &s).shape; shape != "SELECT v FROM t WHERE id = ? OR id = ?" {
+		t.Errorf("its shape is %q", shape)
 	}
 }

@@ -317,7 +317,7 @@ func (m *maker) asks(p *Plan, body node, found []*item, f *fromClause) {
 	var asked []askedPart
 	for i, value := range key {
 		part, ok := m.askedPart(found[0].table.Key[i], value)
-		if !ok {
+		if !ok || !m.isOwnEquality(found[0].table.Key[i]) {
 			return
 		}
 		asked = append(asked, part)

@@ -57,6 +57,9 @@ func (r relation) condition() string {
 		condition += " AND pg_catalog.has_column_privilege(" + oid + "::pg_catalog.oid, (" +
 			strconv.Itoa(int(number)) + ")::pg_catalog.int2, 'SELECT')"
 	}
+	if r.whole {
+		condition += r.mayReadAll()
+	}
 	return condition
 }
 

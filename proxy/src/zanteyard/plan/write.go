@@ -100,14 +100,15 @@ func (m *maker) returns(p *Plan, body node, target *item, version bool, found []
 	}
 	h := &hiding{sole: sole}
 	h.value(numberColumn)
-	p.TellsNumber, p.TellsVersion = true, version
+	version = version && !m.prepared // nothing would show of which relation it is
+	p.TellsNumber, p.TellsVersion, p.target = true, version, target.table.OID
 	wanted := relation{name: target.written, oid: target.table.OID}
 	if version {
 		h.version(target)
 	} else if m.deletes(body) {
 		h.reads(target)
 		p.Sources = append(p.Sources, target.source())
-		wanted.columns = keyNumbers(target.table)
+		wanted = target.relation()
 	}
 	p.relations = append(p.relations, wanted)
 	for _, it := range found {

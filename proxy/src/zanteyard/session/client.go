@@ -75,14 +75,14 @@ var (
 // look makes a statement from a text.
 func (s *Session) look(name string, text []byte) *statement {
 	if !s.plain || s.options.Plans == nil {
-		return &statement{name: name, fetchesNot: !mentions(string(text), "fetch")}
+		return &statement{name: name, others: s.trust.others, fetchesNot: !mentions(string(text), "fetch")}
 	}
 	ahead := s.ahead
 	s.ahead = nil
 	if ahead != nil && ahead.name == name && ahead.looked == s.trust.plans && ahead.text == string(text) {
 		return ahead
 	}
-	st := &statement{name: name, text: string(text), looked: never, behind: s.somethingRuns()}
+	st := &statement{name: name, text: string(text), looked: never, behind: s.somethingRuns(), others: s.trust.others}
 	if !s.options.Auditing() && len(s.names.cursors) == 0 {
 		return st // it may be run after an audit has begun
 	}
@@ -301,6 +301,7 @@ func (s *Session) bind(o *output, m []byte, start, end int) {
 // bindTo records a portal that was bound; beyond the bound for portals it isn't known.
 func (s *Session) bindTo(p *portal, beyond bool) {
 	s.open = true
+	s.binds(p)
 	if beyond {
 		s.names.forgot = s.names.forgot || p.on == nil || p.on.plan == nil || p.on.plan.Kind == plan.Fetch
 		s.queue.push(expectation{message: 'B', on: p.on})
@@ -412,7 +413,8 @@ func (s *Session) describe(o *output, m []byte, start, end int) {
 				e.hides, e.hidden = st.plan, st.use.hidden
 			}
 		} else if p := s.names.portals[portalName(name)]; p != nil {
-			e.on, e.hides, e.hidden = p.on, p.hides, p.hidden
+			e.at, e.on, e.hides, e.hidden = p, p.on, p.hides, p.hidden
+			p.described = true
 		}
 	}
 	s.queue.push(e)
@@ -429,17 +431,17 @@ func (s *Session) execute(o *output, m []byte, start, end int) {
 		e.asking = p.asking
 		if p.on != nil {
 			e.use = p.on.use
-			s.before(p.on.plan)
+			e.replaced = s.runsPortal(p)
 		}
 	}
-	if e.on == nil {
+	if p == nil || e.on == nil {
 		e.on = opaque
 		s.trust.changed(unparsed)
 		s.trust.runsForeign()
 	}
-	if s.runsUnseen(e.on); s.mayFetch(e.on, e.on.plan) {
+	if s.runsUnseen(e.on); s.mayFetch(e.on, e.on.plan) || p != nil && s.lacksDescription(p) {
 		o.buf = appendDescribePortal(o.own(), name)
-		s.queue.push(expectation{kind: fetchColumns, message: 'D'})
+		s.queue.push(expectation{kind: portalColumns, message: 'D'})
 	}
 	if e.hides != nil && e.hides.AddsReturning && len(m) >= wire.Header+5 {
 		// The client's statement returned no rows, so its limit meant nothing; now that it returns rows, the limit would mean

@@ -24,7 +24,7 @@ func (s *Session) long(begin []byte) []byte {
 	case 'P':
 		s.begin()
 		name, _, _ := wire.Text(begin[wire.Header:])
-		st := &statement{name: string(name), unseen: tooLong.unseen}
+		st := &statement{name: string(name), others: s.trust.others, unseen: tooLong.unseen}
 		s.queue.push(expectation{message: 'P', on: st, name: st.name, undo: undoStatement,
 			previous: s.names.statements[st.name], cleared: st.name == ""})
 		s.names.setStatement(st.name, st)
@@ -41,6 +41,7 @@ func (s *Session) long(begin []byte) []byte {
 	case 'F':
 		s.begin()
 		s.trust.changed(unparsed)
+		s.trust.runsForeign()
 		s.queue.push(expectation{message: 'F', on: called})
 	}
 	o.pass(0, len(begin))

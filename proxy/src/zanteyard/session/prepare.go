@@ -130,7 +130,7 @@ func blank(text string, at int) int {
 // again.
 func (s *Session) madeBySQL(p *plan.Plan, of *statement) {
 	if of.plan != p || p.Inner == nil { // one of several statements
-		of = &statement{plan: p}
+		of = &statement{plan: p, others: never}
 	}
 	s.names.set(s.names.prepared, p.Name, of)
 	if of.use != nil && s.looking() && s.understands(of.plan) {

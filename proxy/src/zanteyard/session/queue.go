@@ -19,11 +19,11 @@ const (
 	trialColumns
 	costRow
 	trialEnd
-	blockPart    // the Sync of a trial in a block, before its savepoint is rolled back
-	reparse      // the original text of an unnamed statement, whose failure goes to the client
-	twin         // a statement's rewritten twin, just before the client's Bind
-	fetchColumns // the columns of a portal that may fetch from a rewritten cursor, just before the client's Execute
-	prepareEnd   // the Sync after the twin of a statement of SQL's PREPARE
+	blockPart     // the Sync of a trial in a block, before its savepoint is rolled back
+	reparse       // the original text of an unnamed statement, whose failure goes to the client
+	twin          // a statement's rewritten twin, just before the client's Bind
+	portalColumns // the columns of a portal that has, or may have, hidden ones, just before the client's Execute
+	prepareEnd    // the Sync after the twin of a statement of SQL's PREPARE
 )
 
 // expectation is what the server owes for one message that was sent to it. Messages are answered in order.
@@ -56,6 +56,7 @@ type expectation struct {
 	at       *portal
 	use      *use
 	replaced bool    // the cursor may be another one than that which is known
+	isOver   bool    // the server has shown that it is run over the tables of its plan
 	guessed  bool    // it was recognized by its columns
 	asking   *asking // what it asks for by a condition, nil if that isn't followed
 	// What names stood for before this message, if it changes that: restored if the server doesn't get to it.

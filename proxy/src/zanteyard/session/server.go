@@ -146,7 +146,7 @@ func (s *Session) description(o *output, e *expectation, m []byte, start, end in
 	alone := e.message == 'D'
 	s.fetched(e)
 	columns, ends, ok := []wire.Column(nil), []int(nil), false
-	if unseen := e.hidden == 0 && e.kind == clients && s.mayFetch(e.on, e.current()); unseen || e.hidden > 0 || e.kind == fetchColumns {
+	if unseen := e.hidden == 0 && e.kind == clients && s.mayFetch(e.on, e.current()); unseen || e.hidden > 0 || e.kind == portalColumns {
 		columns, ends, ok = wire.Columns(m, s.columns[:0], s.ends[:0])
 		s.columns, s.ends = columns, ends
 		if ok && unseen {
@@ -156,11 +156,14 @@ func (s *Session) description(o *output, e *expectation, m []byte, start, end in
 	switch {
 	case e.kind == trialColumns:
 		e.use.described(m, s)
-	case e.kind == fetchColumns:
+	case e.kind == portalColumns:
 		if next := s.queue.second(); ok && next != nil && next.message == 'E' {
-			s.recognizes(next, columns)
+			s.foretells(next, columns)
 		}
 	case e.hidden > 0:
+		if ok {
+			e.shows(columns)
+		}
 		keep := len(columns) - e.hidden
 		switch {
 		case !ok || keep < 0:
@@ -238,64 +241,6 @@ func (s *Session) row(o *output, e *expectation, m []byte, start, end int, pass 
 	}
 }
 
-// hidden takes the hidden columns of a row.
-func (s *Session) hidden(e *expectation, values [][]byte) {
-	p, isBinary := e.hides, e.binary
-	if n, ok := p.Number(values, isBinary); ok && !s.tx.parted {
-		s.tx.Number = n
-	} else if ok {
-		s.tx.MayHaveWritten = true
-	}
-	if n, ok := p.Version(values, isBinary); ok && !s.tx.parted {
-		s.tx.version(n)
-	}
-	reads, err := p.AppendReads(s.reads[:0], values, isBinary)
-	s.reads = reads
-	reads = s.comparable(p, reads)
-	if e.asking != nil {
-		e.asking.got(reads, err != nil)
-	}
-	counts := p.Kind == plan.Select && len(p.Unseen) == 0
-	isWhole := s.lists(e, values)
-	reason := s.tx.unreported()
-	if e.replaced {
-		reason = "a cursor that may be another one by now: what others have made has run since it was declared"
-	}
-	if reason != "" && len(reads) > 0 {
-		s.notSeen(p.Shape, reason, true)
-		e.missed, e.why = e.missed+int(isOne(counts)), reason
-	} else {
-		s.tx.read(reads, s.options.ReadLimit, counts && isWhole)
-		switch {
-		case !counts:
-		case reason != "":
-			e.missed, e.why = e.missed+1, reason
-		case !isWhole:
-			e.beyond++
-		case len(reads) == 0:
-			e.loose++
-		}
-	}
-	if err != nil {
-		s.notSeen(p.Shape, "hidden columns that can't be read", true)
-	}
-}
-
-// lists reports whether a row's lists, if it has any, have all rows that it was made of.
-func (s *Session) lists(e *expectation, values [][]byte) bool {
-	p := e.hides
-	if n, ok := p.Aggregated(values, e.binary); ok {
-		if e.made += n; e.made > plan.MostAggregated {
-			p.Rest(s.now)
-		}
-	}
-	if p.Complete(values, e.binary) {
-		return true
-	}
-	s.notSeen(p.Shape, tooManyRows, true)
-	return false
-}
-
 // ownRow handles a row that the proxy asked for.
 func (s *Session) ownRow(e *expectation, m []byte) {
 	n := wire.Int16(m[wire.Header:])
@@ -345,6 +290,9 @@ func (s *Session) complete(e *expectation, m []byte) {
 				s.tx.paused = e.at
 			}
 		}
+		if e.at != nil { // it may be executed again, and then returns what is left, if anything is
+			e.at.counted = true
+		}
 		e.rows, e.loose, e.beyond, e.missed, e.made = 0, 0, 0, 0, 0
 		if e.guessed { // what comes next may be another statement of the text
 			e.hides, e.hidden, e.guessed = nil, 0, false
@@ -365,7 +313,7 @@ func (s *Session) failed(o *output, e *expectation, m []byte, start, end int, pa
 	s.tx.failed = true
 	s.trust.begun, s.trust.declared = false, nil
 	switch e.kind {
-	case clients, reparse, twin, fetchColumns:
+	case clients, reparse, twin, portalColumns:
 		s.tx.erred = true
 		pass = len(s.failure) == 0 && !s.again(e, m)
 		if p := e.current(); pass && p != nil && p.Touches() {

@@ -85,7 +85,7 @@ func (s *Session) isForeign(p *plan.Plan) bool {
 		return !s.trust.declared[p.Name] && (of == nil || of.plan.Foreign)
 	case plan.Execute:
 		of := s.names.prepared[p.Name]
-		return of == nil || of.plan == nil || of.plan.Foreign
+		return of == nil || of.plan == nil || of.plan.Foreign || of.others != s.trust.others
 	case plan.Commit, plan.PrepareTransaction:
 		return s.trust.foreign // by triggers that are deferred
 	case plan.Several:
@@ -99,7 +99,32 @@ func (s *Session) isForeign(p *plan.Plan) bool {
 // are used, and what the latter return isn't reported.
 func (t *trust) runsForeign() {
 	t.era++
+	t.others++
 	t.foreign, t.declared = true, nil
+}
+
+// binds is called for each portal that is bound. The server plans its statement by then, and that may call what others
+// have made. A statement of the client's own that was prepared before such a one ran may be another one by now.
+func (s *Session) binds(p *portal) {
+	if st := p.on; st != nil {
+		p.mayBeOther = st.name != "" && !p.changed && st.others != s.trust.others
+		if k := st.kind(); p.mayBeOther || (k == plan.Select || k == plan.Write) && st.plan.Foreign {
+			s.trust.runsForeign()
+		}
+	}
+	p.others = s.trust.others
+}
+
+// runsPortal is called before a portal is run, and reports whether its name may stand for another one by now. What it runs
+// itself can't replace it.
+func (s *Session) runsPortal(p *portal) bool {
+	p.replaced = p.replaced || p.others != s.trust.others
+	if p.mayBeOther || p.replaced {
+		s.trust.runsForeign()
+	}
+	s.before(p.on.plan)
+	p.others = s.trust.others
+	return p.replaced
 }
 
 // mostDeclared limits the cursors that are known before they are declared.
@@ -119,6 +144,7 @@ func (t *trust) syncs(status byte) {
 		return
 	}
 	t.era++
+	t.others++
 	t.foreign = status == 'T'
 }
 

@@ -72,6 +72,7 @@ func (s *Session) several(o *output, st *statement, e *expectation, start, end i
 func (e *expectation) piece(i int) {
 	e.part = i
 	e.hides, e.hidden, e.changed, e.use, e.rows, e.loose, e.made, e.asking = nil, 0, false, nil, 0, 0, 0, nil
+	e.isOver = false
 	if i >= len(e.pieces) {
 		return
 	}

@@ -437,8 +437,8 @@ func (s *Session) did(p *plan.Plan, e *expectation, tag []byte) {
 }
 
 // mayHaveChanged reports whether a statement that writes may have written a row: if its rows report the transaction's
-// number, it has written none if there is none.
-func mayHaveChanged(e *expectation) bool { return e.hidden == 0 || e.rows > 0 }
+// number, it has written none if there is none, unless it was run over something else, such as a view with a trigger.
+func mayHaveChanged(e *expectation) bool { return e.hidden == 0 || e.rows > 0 || !e.knowsTables() }
 
 // notSeen counts something that wasn't seen, of the transaction that is running.
 func (s *Session) notSeen(shape, reason string, reads bool) {
@@ -497,7 +497,7 @@ func (s *Session) leftOut(p *plan.Plan, e *expectation, noted *record.Statement,
 	_, n := counted(tag)
 	s.askedBy(rows(p), e, noted, p.Kind == plan.Write && n > 0)
 	s.sums(p, e, tag, reason)
-	if e.hidden > 0 && p.Asked && e.rows == 0 {
+	if e.hidden > 0 && p.Asked && e.rows == 0 && (e.at == nil || !e.at.counted) {
 		s.absent(p, e, noted)
 	}
 }
@@ -514,6 +514,9 @@ func (s *Session) absent(p *plan.Plan, e *expectation, noted *record.Statement) 
 		reason = "a row that wasn't there, at read committed or for an unknown key"
 	case s.status != 'T':
 		reason = "a row that wasn't there, asked for by a transaction of one statement"
+	case reason == "" && !e.knowsTables():
+		reason = otherRelation
+		s.isOverOthers(e)
 	}
 	if reason != "" {
 		s.options.Sink.Unseen(p.Shape, reason, true)

@@ -14,6 +14,7 @@ type trust struct {
 	generations map[string]uint64
 	newest      uint64 // of all generations
 	era         uint64 // what the proxy prepared in an older one may be something else by now
+	others      uint64 // counts what may have run any statement: what anybody prepared before may be something else
 	foreign     bool   // others' statements may have run in the transaction, so that deferred triggers may, too
 	begun       bool   // it is a block, which a Sync doesn't end
 	// declared are the cursors of the transaction, as it was sent, that don't run what others have made.

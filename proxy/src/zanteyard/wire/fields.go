@@ -104,11 +104,13 @@ func CutRow(m []byte, columns int, visible []byte) int {
 // Column is one column of a RowDescription.
 type Column struct {
 	Name   []byte // in the message
+	Table  uint32 // the relation that the statement took it from as it is, 0 if it computes it
+	Number int16  // the column's number in that relation; negative for a system column
 	Type   uint32
 	Format int // 0 text, 1 binary
 }
 
-// Columns parses a RowDescription: each column's name, type and format, and where in the message it ends.
+// Columns parses a RowDescription: each column's name, origin, type and format, and where in the message it ends.
 func Columns(m []byte, columns []Column, ends []int) ([]Column, []int, bool) {
 	at, n := Header+2, Int16(m[Header:])
 	if n < 0 {
@@ -121,7 +123,8 @@ func Columns(m []byte, columns []Column, ends []int) ([]Column, []int, bool) {
 		}
 		begin := at
 		at += name + 19
-		columns = append(columns, Column{m[begin : begin+name], binary.BigEndian.Uint32(m[at-12:]), Int16(m[at-2:])})
+		columns = append(columns, Column{Name: m[begin : begin+name], Table: binary.BigEndian.Uint32(m[at-18:]),
+			Number: int16(binary.BigEndian.Uint16(m[at-14:])), Type: binary.BigEndian.Uint32(m[at-12:]), Format: Int16(m[at-2:])})
 		ends = append(ends, at)
 	}
 	return columns, ends, true

@@ -136,10 +136,10 @@ func TestRow(t *testing.T) {
 
 func TestDescription(t *testing.T) {
 	d := &pgproto3.RowDescription{Fields: []pgproto3.FieldDescription{{Name: []byte("a"), DataTypeOID: 23},
-		{Name: []byte("long name"), DataTypeOID: 28, Format: 1}}}
+		{Name: []byte("long name"), TableOID: 1 << 31, TableAttributeNumber: 65534, DataTypeOID: 28, Format: 1}}}
 	m := d.Encode(nil)
 	columns, ends, ok := Columns(m, nil, nil)
-	if !ok || fmt.Sprint(columns) != fmt.Sprint([]Column{{[]byte("a"), 23, 0}, {[]byte("long name"), 28, 1}}) || ends[1] != len(m) {
+	if !ok || fmt.Sprint(columns) != fmt.Sprint([]Column{{[]byte("a"), 0, 0, 23, 0}, {[]byte("long name"), 1 << 31, -2, 28, 1}}) || ends[1] != len(m) {
 		t.Errorf("%v %v %v", columns, ends, ok)
 	}
 	d.Fields = d.Fields[:1]

@@ -172,3 +172,56 @@ func TestNamesThatChangeAndBack(t *testing.T) {
 		}
 	}
 }
+
+// TestRowSecurityBesideTheProxy: a table's owner switches row security on, and maybe off again, and the sessions don't hear
+// of it. A row that it hides from a client who asks for its key isn't taken for one that isn't there.
+func TestRowSecurityBesideTheProxy(t *testing.T) {
+	c := start(t)
+	beside := directly(t, c)
+	sql(t, beside, `CREATE TABLE o (id int PRIMARY KEY, v int); INSERT INTO o VALUES (1, 0);
+		CREATE TABLE hides (id int PRIMARY KEY, v int); INSERT INTO hides VALUES (5, 0);
+		CREATE ROLE limited LOGIN; GRANT ALL ON ALL TABLES IN SCHEMA public TO limited`)
+	p := begin(t, c, "--look", "1h")
+	p.until(`["open"`)
+	w := &watched{program: p}
+	reader, writer := p.connect("user=limited"), p.connect()
+	const o, asks = "UPDATE o SET v = v + 1 WHERE id = 1", "SELECT v FROM hides WHERE id = "
+	for _, x := range []struct {
+		name, key string
+		on, off   bool
+	}{{"never on", "6", false, false}, {"on", "5", true, false}, {"on and off", "5", true, true}} {
+		warm(t, reader, asks+x.key, "SELECT v FROM o WHERE id = 1", "UPDATE account SET balance = balance WHERE id = 2")
+		warm(t, writer, o, "UPDATE account SET balance = balance WHERE id = 2")
+		offered, seen := false, false
+		for try := 1; try <= mostTries && !offered; try++ {
+			one, two := fmt.Sprint("reads, ", x.name, try), fmt.Sprint("writes, ", x.name, try)
+			if x.on {
+				sql(t, beside, "ALTER TABLE hides ENABLE ROW LEVEL SECURITY")
+				w.tagged(writer) // the audit has seen that by then, and the sessions haven't
+			}
+			sql(t, writer, "BEGIN /*tag='"+two+"'*/")
+			sql(t, writer, o)
+			sql(t, writer, "COMMIT")
+			sql(t, reader, "BEGIN ISOLATION LEVEL REPEATABLE READ /*tag='"+one+"'*/")
+			sql(t, reader, asks+x.key)
+			sql(t, reader, "SELECT v FROM o WHERE id = 1")
+			sql(t, reader, "COMMIT")
+			if x.off {
+				sql(t, beside, "ALTER TABLE hides DISABLE ROW LEVEL SECURITY")
+			}
+			its := w.tagged(reader, writer)
+			reads, there := its[one]
+			offered = there && strings.Contains(reads.reads(its), "o 1 from "+two)
+			seen = seen || strings.Contains(reads.reads(its), "hides "+x.key+" from init")
+			if x.on {
+				sql(t, beside, "ALTER TABLE hides DISABLE ROW LEVEL SECURITY")
+			}
+		}
+		if !offered {
+			t.Errorf("%s: nothing was offered", x.name)
+		}
+		if seen != !x.on {
+			t.Errorf("%s: it is offered as absent: %v", x.name, seen)
+		}
+	}
+}

@@ -1,0 +1,72 @@
+package session
+
+import (
+	"errors"
+
+	"zanteyard/plan"
+	"zanteyard/record"
+)
+
+// hidden takes the hidden columns of a row.
+func (s *Session) hidden(e *expectation, values [][]byte) {
+	p, isBinary := e.hides, e.binary
+	if n, ok := p.Number(values, isBinary); ok && !s.tx.parted {
+		s.tx.Number = n
+	} else if ok {
+		s.tx.MayHaveWritten = true
+	}
+	if n, ok := p.Version(values, isBinary); ok && !s.tx.parted && e.knowsTables() {
+		s.tx.version(n)
+	}
+	reads, err := p.AppendReads(s.reads[:0], values, isBinary)
+	s.reads = reads
+	reads = s.comparable(p, reads)
+	if e.asking != nil {
+		e.asking.got(reads, err != nil)
+	}
+	counts := p.Kind == plan.Select && len(p.Unseen) == 0
+	isWhole := s.lists(e, values)
+	reason := s.tx.unreported()
+	switch isOther := errors.Is(err, plan.ErrOtherRelation); {
+	case isOther || len(reads) > 0 && !e.knowsTables():
+		reason, err = otherRelation, nil
+		if s.isOverOthers(e); isOther {
+			reads = append(reads[:0], record.Read{}) // none is reported
+		}
+	case e.replaced:
+		reason = "a cursor or portal that may be another one by now: what others have made has run since it was made"
+	}
+	if reason != "" && len(reads) > 0 {
+		s.notSeen(p.Shape, reason, true)
+		e.missed, e.why = e.missed+int(isOne(counts)), reason
+	} else {
+		s.tx.read(reads, s.options.ReadLimit, counts && isWhole)
+		switch {
+		case !counts:
+		case reason != "":
+			e.missed, e.why = e.missed+1, reason
+		case !isWhole:
+			e.beyond++
+		case len(reads) == 0:
+			e.loose++
+		}
+	}
+	if err != nil {
+		s.notSeen(p.Shape, "hidden columns that can't be read", true)
+	}
+}
+
+// lists reports whether a row's lists, if it has any, have all rows that it was made of.
+func (s *Session) lists(e *expectation, values [][]byte) bool {
+	p := e.hides
+	if n, ok := p.Aggregated(values, e.binary); ok {
+		if e.made += n; e.made > plan.MostAggregated {
+			p.Rest(s.now)
+		}
+	}
+	if p.Complete(values, e.binary) {
+		return true
+	}
+	s.notSeen(p.Shape, tooManyRows, true)
+	return false
+}
