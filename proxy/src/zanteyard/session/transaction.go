@@ -3,7 +3,6 @@ package session
 import (
 	"regexp"
 	"strconv"
-	"strings"
 	"time"
 
 	"zanteyard/plan"
@@ -89,12 +88,6 @@ func (t *transaction) unreported() string {
 	return ""
 }
 
-// asked is what a SELECT by one whole key asked for.
-type asked struct {
-	key   record.Key
-	known bool
-}
-
 // empty reports whether nothing in the transaction concerns an audit: no statement of it touched a table.
 func (t *transaction) empty() bool {
 	return len(t.Reads) == 0 && t.Number == 0 && !t.MayHaveWritten && !t.wrote && len(t.Absent) == 0 && t.Beyond == 0 &&
@@ -164,60 +157,6 @@ func (t *transaction) version(xmin uint32) {
 	if len(t.Versions) < mostVersions {
 		t.Versions = append(t.Versions, xmin)
 	}
-}
-
-// note keeps a statement's text for readers of an explanation, with the reads that it made: those added since its first
-// row. It returns what is kept, or nil.
-func (s *Session) note(e *expectation) *record.Statement {
-	policy, t := s.options.Policy, &s.tx
-	from, to, last := len(t.Reads), len(t.Reads), len(t.Statements)-1
-	if e.rows > 0 {
-		from = e.from
-	}
-	paused := t.paused
-	t.paused = nil
-	if paused != nil && paused == e.at && t.Statements[last].To == from {
-		t.Statements[last].To = to // more of its rows, with no others between
-		return &t.Statements[last]
-	}
-	if !policy.Statements || e.on == nil || e.on.text == "" {
-		return nil
-	}
-	if len(t.Statements) >= mostStatements || t.kept >= mostKept {
-		t.Dropped++
-		return nil
-	}
-	st := record.Statement{Text: e.on.text, At: s.now, From: from, To: to}
-	if e.part < len(e.pieces) {
-		st.Text = e.pieces[e.part].text
-	}
-	if policy.Redacts {
-		st.Text = plan.Redacted(st.Text)
-	}
-	if len(st.Text) > mostText {
-		st.Text = st.Text[:mostText]
-	}
-	if len(st.Text) < len(e.on.text) {
-		st.Text = strings.Clone(st.Text) // a part would keep the whole text
-	}
-	if p := e.current(); p != nil {
-		st.Unseen = p.Unseen
-	}
-	if e.at != nil && policy.Parameters && !policy.Redacts {
-		st.Parameters, st.More = e.at.parameters, e.at.more
-	}
-	t.kept += sizeOf(&st)
-	t.Statements = append(t.Statements, st)
-	return &t.Statements[len(t.Statements)-1]
-}
-
-// sizeOf returns about how many bytes a statement takes.
-func sizeOf(it *record.Statement) int {
-	n := 128 + len(it.Text)
-	for _, one := range it.Parameters {
-		n += 16 + len(one)
-	}
-	return n
 }
 
 // begin records when the transaction began, by the first message that was sent for it.
@@ -499,42 +438,6 @@ func (s *Session) leftOut(p *plan.Plan, e *expectation, noted *record.Statement,
 	s.sums(p, e, tag, reason)
 	if e.hidden > 0 && p.Asked && e.rows == 0 && (e.at == nil || !e.at.counted) {
 		s.absent(p, e, noted)
-	}
-}
-
-// absent records a whole key that was asked for and not found, if it is known in which snapshot.
-func (s *Session) absent(p *plan.Plan, e *expectation, noted *record.Statement) {
-	its := e.on.asked
-	if e.at != nil {
-		its = e.at.asked
-	}
-	reason := s.tx.unreported()
-	switch {
-	case !its.known:
-		reason = "a row that wasn't there, at read committed or for an unknown key"
-	case s.status != 'T':
-		reason = "a row that wasn't there, asked for by a transaction of one statement"
-	case reason == "" && !e.knowsTables():
-		reason = otherRelation
-		s.isOverOthers(e)
-	}
-	if reason != "" {
-		s.options.Sink.Unseen(p.Shape, reason, true)
-		s.tx.Did.Leave(foundNoRow, false, 1, 0, 0)
-		return
-	}
-	if len(s.tx.Absent) >= s.options.ReadLimit || s.tx.keys+len(its.key) > mostKeys {
-		s.tx.Beyond++
-		s.tx.Did.Leave(foundNoRow, false, 1, 0, 0)
-		return
-	}
-	s.tx.keys += len(its.key)
-	key := record.Key(strings.Clone(string(its.key))) // it may be a part of the statement's text
-	s.tx.Absent = append(s.tx.Absent, record.Absence{Relation: p.Sources[0].Relation, Key: key,
-		Identity: p.Sources[0].Identity, Wrote: s.tx.mayHaveWritten()})
-	s.tx.Did.Selects = append(s.tx.Did.Selects, record.Select{Absent: int32(len(s.tx.Absent))})
-	if noted != nil {
-		noted.Absent = len(s.tx.Absent)
 	}
 }
 
