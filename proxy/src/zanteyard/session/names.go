@@ -153,17 +153,32 @@ func (n *names) back(e *expectation) {
 	}
 }
 
-// ended forgets what ends with a transaction: all of the protocol's portals, and cursors (those WITH HOLD aren't
-// rewritten).
-func (n *names) ended() {
+// ended forgets what ends with a transaction: the protocol's portals, and cursors (those WITH HOLD aren't rewritten). A portal
+// whose Bind isn't answered yet is bound behind the end, and stays.
+func (n *names) ended(q *queue) {
+	var later []string
+	if len(n.portals) > 0 {
+		later = q.binds()
+	}
 	for k := range n.portals {
-		delete(n.portals, k)
+		if !contains(later, k) {
+			delete(n.portals, k)
+		}
 	}
 	for k := range n.cursors {
 		delete(n.cursors, k)
 		delete(n.unread, k) // another one may have the name
 	}
 	n.unsure = false
+}
+
+func contains(names []string, name string) bool {
+	for _, one := range names {
+		if one == name {
+			return true
+		}
+	}
+	return false
 }
 
 // discarded forgets all named statements; the unnamed one stays.

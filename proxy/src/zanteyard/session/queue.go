@@ -148,6 +148,16 @@ func (q *queue) running() uint64 {
 	return q.ended + 1
 }
 
+// binds returns the names of the client's portals whose Bind isn't answered.
+func (q *queue) binds() (names []string) {
+	for i := q.head; i < len(q.list); i++ {
+		if e := &q.list[i]; e.message == 'B' && e.undo == undoPortal && !contains(names, e.name) {
+			names = append(names, e.name)
+		}
+	}
+	return names
+}
+
 func (q *queue) pop() {
 	if q.list[q.head].ends() {
 		q.ended++

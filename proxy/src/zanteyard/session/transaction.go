@@ -224,7 +224,7 @@ func (s *Session) ended() {
 		outcome = s.tx.undone()
 	}
 	s.finish(outcome)
-	s.names.ended()
+	s.names.ended(&s.queue)
 }
 
 // onlyRead reports whether a transaction that is rolled back might as well have been committed.
@@ -289,7 +289,7 @@ func (s *Session) endsUnlooked(e *expectation, tag []byte) bool {
 	default:
 		return false
 	}
-	s.names.ended()
+	s.names.ended(&s.queue)
 	return true
 }
 
@@ -332,7 +332,7 @@ func (s *Session) did(p *plan.Plan, e *expectation, tag []byte) {
 		if p.Chain {
 			s.tx.Level, s.tx.block, s.tx.started = its, true, true
 		}
-		s.names.ended()
+		s.names.ended(&s.queue)
 		return
 	case plan.PrepareTransaction:
 		s.note(e)
@@ -341,7 +341,7 @@ func (s *Session) did(p *plan.Plan, e *expectation, tag []byte) {
 		} else {
 			s.finish(record.Unclear) // COMMIT PREPARED may come from anywhere: the slot reports it
 		}
-		s.names.ended()
+		s.names.ended(&s.queue)
 		return
 	case plan.Declare:
 		if e.changed {

@@ -1,0 +1,51 @@
+package session
+
+import (
+	"testing"
+
+	"github.com/jackc/pgproto3/v2"
+)
+
+// TestBoundBehindTheEnd: a portal that is bound behind what ends a transaction, but is run only after the end was answered,
+// returns what it would without the proxy.
+func TestBoundBehindTheEnd(t *testing.T) {
+	needServer(t)
+	sql(t, fill)
+	bind := func(statement, portal string) pgproto3.FrontendMessage {
+		return &pgproto3.Bind{PreparedStatement: statement, DestinationPortal: portal, Parameters: [][]byte{[]byte("3")}}
+	}
+	sync, execute := &pgproto3.Sync{}, &pgproto3.Execute{}
+	for _, text := range []string{"SELECT v FROM t WHERE id = $1", "UPDATE t SET v = v WHERE id = $1"} {
+		for _, x := range []struct {
+			name        string
+			first, then []pgproto3.FrontendMessage
+		}{
+			{"behind a Sync", []pgproto3.FrontendMessage{sync, bind("s", "")}, []pgproto3.FrontendMessage{execute, sync}},
+			{"described", []pgproto3.FrontendMessage{sync, bind("s", "")},
+				[]pgproto3.FrontendMessage{&pgproto3.Describe{ObjectType: 'P'}, execute, sync}},
+			{"named", []pgproto3.FrontendMessage{bind("s", "one"), &pgproto3.Execute{Portal: "one"}, sync, bind("s", "two"), bind("s", "one")},
+				[]pgproto3.FrontendMessage{&pgproto3.Execute{Portal: "two"}, &pgproto3.Execute{Portal: "one"}, sync}},
+			{"one that ends with it", []pgproto3.FrontendMessage{bind("s", "old"), sync, bind("s", "")},
+				[]pgproto3.FrontendMessage{execute, &pgproto3.Execute{Portal: "old"}, sync}},
+		} {
+			prepare := named("s", text)
+			plain, p := direct(t, "postgres"), through(t, "postgres", nil)
+			plain.do(prepare)
+			p.do(prepare)
+			run := messages('Z', bind("s", ""), execute, sync)
+			for i := 0; i < 3; i++ {
+				p.do(run)
+				p.settle()
+			}
+			p.sink.take()
+			if p.do(run); len(p.sink.take()) == 0 {
+				t.Fatalf("%s isn't seen", text)
+			}
+			for _, step := range []step{messages('Z', x.first...), messages('Z', x.then...)} {
+				if got, want := show(p.do(step)), show(plain.do(step)); got != want {
+					t.Errorf("%s, %s: got\n%s\nand not\n%s", text, x.name, got, want)
+				}
+			}
+		}
+	}
+}
