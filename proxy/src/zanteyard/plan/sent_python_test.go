@@ -10,7 +10,7 @@ import (
 // read parses the Python package's modules of a pattern, and evaluates their constants.
 const read = `
 import ast, glob, json, os, re
-paths = sorted(glob.glob("../../../../collectors/python/zanteyard/%s"))
+paths = sorted(glob.glob("../../../../collectors/python/zanteyard/%s", recursive=True))
 trees = {os.path.basename(path)[:-3]: ast.parse(open(path).read()) for path in paths}
 
 def constants(tree):
@@ -58,7 +58,7 @@ print(json.dumps(found))
 
 // TestPythonTexts finds each text that the Python package sends to a server that is to be audited.
 func TestPythonTexts(t *testing.T) {
-	checkPython(t, "watch/*.py", collect, false, 15)
+	checkPython(t, "watch/**/*.py", collect, false, 15)
 }
 
 // collectStores prints each statement that a store in PostgreSQL sends. Its connection has the application's search

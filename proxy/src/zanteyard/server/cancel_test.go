@@ -4,6 +4,7 @@ import (
 	"context"
 	"io"
 	"net"
+	"sync/atomic"
 	"testing"
 
 	"github.com/jackc/pgconn"
@@ -17,16 +18,15 @@ func TestEachRequestReachesTheServer(t *testing.T) {
 		t.Fatal(err)
 	}
 	defer listener.Close()
-	came := make(chan string, 10)
+	var came atomic.Int32
 	go func() {
 		for {
 			conn, err := listener.Accept()
 			if err != nil {
 				return
 			}
-			request := make([]byte, 16)
-			if _, err := io.ReadFull(conn, request); err == nil {
-				came <- string(request[8:])
+			if _, err := io.ReadFull(conn, make([]byte, 16)); err == nil {
+				came.Add(1)
 			}
 			conn.Close() // as a server does
 		}
@@ -39,7 +39,7 @@ func TestEachRequestReachesTheServer(t *testing.T) {
 	for i := 0; i < 3; i++ {
 		s.pass(context.Background(), packet("\x00\x00\x00\x10\x04\xd2\x16\x2ethe key!"))
 	}
-	if close(came); len(came) != 3 {
-		t.Errorf("%d of 3 requests reached the server", len(came))
+	if n := came.Load(); n != 3 {
+		t.Errorf("%d of 3 requests reached the server", n)
 	}
 }

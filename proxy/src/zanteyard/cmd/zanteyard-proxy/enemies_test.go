@@ -6,6 +6,7 @@ import (
 	"flag"
 	"fmt"
 	"math/rand"
+	"regexp"
 	"strings"
 	"sync"
 	"sync/atomic"
@@ -50,6 +51,7 @@ CREATE FUNCTION bump(i int, w text) RETURNS void LANGUAGE plpgsql AS
 type deeds struct {
 	read  map[string]map[string]bool // the tags of the versions of each row, or of each table whose keys change
 	asked map[string]bool            // tables of which it may have asked for a row that wasn't there
+	wrote map[string]bool            // tables whose rows it updated or deleted, by a condition that passed others over
 	level string                     // that it ran at, if it asked
 }
 
@@ -155,7 +157,12 @@ func (e *enemy) read(table, text string) error {
 	return err
 }
 
+var writesTo = regexp.MustCompile(`^(?:UPDATE|DELETE FROM) (\w+)`)
+
 func (e *enemy) write(text string) error {
+	if to := writesTo.FindStringSubmatch(text); to != nil {
+		e.its.wrote[to[1]] = true
+	}
 	_, err := e.run(e.inEncoding(text), e.r.Intn(2) == 0)
 	return err
 }
@@ -301,7 +308,7 @@ func (e *enemy) begin(tag string) (err error) {
 func (e *enemy) transaction() error {
 	e.tags++
 	tag := fmt.Sprintf("%d.%d", e.name, e.tags)
-	e.its = &deeds{read: map[string]map[string]bool{}, asked: map[string]bool{}}
+	e.its = &deeds{read: map[string]map[string]bool{}, asked: map[string]bool{}, wrote: map[string]bool{}}
 	var err error
 	switch e.r.Intn(12) {
 	case 0:
@@ -346,7 +353,7 @@ func (e *enemy) block(tag string) error {
 	}
 	first := e.its
 	e.keep(tag)
-	e.its = &deeds{read: map[string]map[string]bool{}, asked: map[string]bool{}, level: first.level}
+	e.its = &deeds{read: map[string]map[string]bool{}, asked: map[string]bool{}, wrote: map[string]bool{}, level: first.level}
 	err := e.read("one", fmt.Sprintf("SELECT id, tag FROM one WHERE id = %d /*tag='%sc'*/", e.r.Intn(24), tag))
 	if err == nil {
 		err = e.write("COMMIT")
@@ -374,6 +381,7 @@ func (e *enemy) pipeline(tag string) error {
 	texts := []string{read, fmt.Sprintf("CALL halves(%d, '%s')", e.r.Intn(24), tag), read, "SELECT id, tag FROM one WHERE id = 3"}
 	if e.r.Intn(2) == 0 {
 		texts = append([]string{fmt.Sprintf("UPDATE one SET tag = '%s' WHERE id = %d", tag, e.r.Intn(24))}, texts...)
+		e.its.wrote["one"] = true
 	}
 	if e.r.Intn(3) == 0 {
 		texts[len(texts)-1] = "SELECT 1 / 0"

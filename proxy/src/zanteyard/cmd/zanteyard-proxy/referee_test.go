@@ -194,7 +194,7 @@ func (j *referee) compareReads(tag string, it *enemyTold, did *deeds) {
 			continue // what its write replaced
 		}
 		if of := registers[key]; of != "" {
-			if j.passed++; !did.asked[of] {
+			if j.passed++; !did.asked[of] && !did.wrote[of] {
 				j.t.Errorf("%s is told with what it passed over in %s, and has asked for nothing there", tag, of)
 			}
 			continue
