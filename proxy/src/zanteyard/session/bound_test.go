@@ -49,3 +49,29 @@ func TestBoundBehindTheEnd(t *testing.T) {
 		}
 	}
 }
+
+// TestTwinOfAPartThatFails: what the proxy prepares in a part of a pipeline that fails is skipped with it. The client's next
+// parts, sent in the same write, return what they would without the proxy.
+func TestTwinOfAPartThatFails(t *testing.T) {
+	needServer(t)
+	sql(t, fill)
+	const text = "SELECT v FROM t WHERE id = 1"
+	bind, execute, sync := &pgproto3.Bind{PreparedStatement: "s"}, &pgproto3.Execute{}, &pgproto3.Sync{}
+	fails := []pgproto3.FrontendMessage{&pgproto3.Parse{Query: "SELECT 1 / (SELECT 0)"}, &pgproto3.Bind{}, execute, bind, execute, sync}
+	for name, more := range map[string][]pgproto3.FrontendMessage{
+		"nothing behind it": {bind, execute, sync},
+		"more behind it":    {bind, execute, sync, bind, execute, sync},
+	} {
+		plain, p := direct(t, "postgres"), through(t, "postgres", nil)
+		p.warm(text)
+		plain.do(named("s", text))
+		p.do(named("s", text))
+		all := step{encoded(append(append([]pgproto3.FrontendMessage{}, fails...), more...)...), 'Z', 1 + len(more)/3}
+		if got, want := show(p.do(all)), show(plain.do(all)); got != want {
+			t.Errorf("%s: got\n%s\nand not\n%s", name, got, want)
+		}
+		if got, want := show(p.query("SELECT 5")), show(plain.query("SELECT 5")); got != want {
+			t.Errorf("%s: then got\n%s\nand not\n%s", name, got, want)
+		}
+	}
+}

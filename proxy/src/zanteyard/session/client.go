@@ -358,7 +358,7 @@ func declared(types []byte) []uint32 {
 
 // twin returns the name of a named statement's rewritten twin, which is made at its first use.
 func (s *Session) twin(o *output, st *statement) string {
-	if st.twin != "" && st.twinOf == st.plan && st.twinIn == s.trust.era {
+	if st.twin != "" && st.twinOf == st.plan && st.twinIn == s.trust.era && (st.twinMade || st.twinPart == s.queue.parts) {
 		return st.twin
 	}
 	to := o.own()
@@ -372,6 +372,7 @@ func (s *Session) twin(o *output, st *statement) string {
 	s.queue.push(expectation{kind: twin, message: 'D', on: st})
 	s.names.twins++
 	st.twin, st.twinOf, st.twinIn = twinName(s.names.twins), st.plan, s.trust.era
+	st.twinMade, st.twinPart = false, s.queue.parts
 	text, _, _ := st.plan.Rewrite(st.text, st.tokens)
 	types := st.types
 	if st.parameters != nil {

@@ -33,7 +33,7 @@ func (s *Session) hidden(e *expectation, values [][]byte) {
 		if s.isOverOthers(e); isOther {
 			reads = append(reads[:0], record.Read{}) // none is reported
 		}
-	case e.replaced:
+	case e.replaced || s.trust.taken:
 		reason = "a cursor or portal that may be another one by now: what others have made has run since it was made"
 	}
 	if reason != "" && len(reads) > 0 {

@@ -28,9 +28,13 @@ type statement struct {
 	twin   string
 	twinOf *plan.Plan
 	twinIn uint64
-	looked uint64 // trust.plans when the plan was made
-	others uint64 // what trust counted when it was prepared: its name may stand for another statement afterwards
-	unseen string // why it wasn't looked at
+	// twinMade means that the server has made the twin; until then it may skip what makes it, with the rest of a part of a
+	// pipeline. twinPart is in which part that was sent.
+	twinMade bool
+	twinPart uint64
+	looked   uint64 // trust.plans when the plan was made
+	others   uint64 // what trust counted when it was prepared: its name may stand for another statement afterwards
+	unseen   string // why it wasn't looked at
 	// fetchesNot: it wasn't looked at, and is no FETCH.
 	fetchesNot bool
 	behind     bool // it was sent while another one ran

@@ -79,6 +79,7 @@ const (
 // queue is a list of expectations, oldest first, in memory that is reused.
 type queue struct {
 	ended  uint64 // counts the client's statements, and series of messages, that were answered
+	parts  uint64 // and those that were sent whole
 	list   []expectation
 	head   int
 	pieces int       // of the statements in it
@@ -98,6 +99,9 @@ func (q *queue) push(e expectation) {
 	}
 	q.list = append(q.list, e)
 	q.pieces += len(e.pieces)
+	if e.ends() {
+		q.parts++
+	}
 }
 
 // last returns the youngest expectation. There must be one.

@@ -55,6 +55,13 @@ func TestOthersReplaceTheClients(t *testing.T) {
 		"a statement": {func(*proxied) []step { return []step{parse} }, func(*proxied) []step { return []step{query(log), run, mine} }},
 		"a statement, in a block": {func(*proxied) []step { return []step{parse} },
 			func(*proxied) []step { return []step{query("BEGIN"), query(log), run, mine} }},
+		"a BEGIN": {func(*proxied) []step {
+			return []step{messages('Z', &pgproto3.Parse{Name: "mine", Query: "BEGIN"}, &pgproto3.Sync{})}
+		},
+			func(*proxied) []step {
+				return []step{query(log), messages('Z', &pgproto3.Bind{PreparedStatement: "mine"}, &pgproto3.Execute{},
+					&pgproto3.Bind{PreparedStatement: "s"}, &pgproto3.Execute{}, &pgproto3.Sync{})}
+			}},
 		"one of SQL's": {func(*proxied) []step { return []step{query("PREPARE mine AS SELECT 1")} },
 			func(*proxied) []step { return []step{query(log), run, query("EXECUTE mine")} }},
 		"a portal": {func(*proxied) []step {
@@ -127,5 +134,42 @@ func TestOthersReplaceTheClients(t *testing.T) {
 				}
 			}
 		})
+	}
+}
+
+// TestTwinsStay: once something has run that others have made, a client's prepared BEGIN and COMMIT aren't taken for others'
+// for ever, so the proxy's statements aren't prepared again each time.
+func TestTwinsStay(t *testing.T) {
+	needServer(t)
+	sql(t, fill)
+	p := through(t, "postgres", knowing(t))
+	for name, text := range map[string]string{"begin": "BEGIN", "commit": "COMMIT", "s": "SELECT v FROM t WHERE id = 1", "u": "SELECT v FROM u WHERE a = 1"} {
+		p.do(messages('Z', &pgproto3.Parse{Name: name, Query: text}, &pgproto3.Sync{}))
+	}
+	run := func() {
+		for _, names := range [][]string{{"begin", "s"}, {"u"}, {"commit"}} {
+			var all []pgproto3.FrontendMessage
+			for _, name := range names {
+				all = append(all, &pgproto3.Bind{PreparedStatement: name}, &pgproto3.Execute{})
+			}
+			p.do(messages('Z', append(all, &pgproto3.Sync{})...))
+		}
+		p.settle()
+	}
+	twins := func() int {
+		p.session.state.Lock()
+		defer p.session.state.Unlock()
+		return p.session.names.twins
+	}
+	for i := 0; i < 5; i++ {
+		run()
+	}
+	before := twins()
+	p.query("SELECT bump(1)")
+	for i := 0; i < 10; i++ {
+		run()
+	}
+	if n := twins() - before; before == 0 || n > 4 {
+		t.Errorf("%d statements were prepared, and %d more after a function had run", before, n)
 	}
 }

@@ -47,6 +47,9 @@ func (s *Session) answer(o *output, m []byte, start, end int) {
 			s.lost(m[0], e.message)
 			break
 		}
+		if e.kind == twin && m[0] == '1' && e.on.twin == e.name {
+			e.on.twinMade = true
+		}
 		s.queue.pop()
 	case 't':
 		if e.message == 'D' && e.on != nil && (e.on.name != "" || e.kind == clients) {
@@ -417,6 +420,9 @@ func (s *Session) ready(o *output, e *expectation, m []byte, start, end int) {
 		} else if s.status == 'T' {
 			s.tx.failed = false // it was rolled back to a savepoint
 			s.tx.block = true
+		}
+		if !s.queue.empty() { // what is answered must not be sent again with what isn't
+			s.replay.valid = false
 		}
 		o.pass(start, end)
 	case askEnd, prepareEnd:

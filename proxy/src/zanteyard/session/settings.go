@@ -107,12 +107,35 @@ func (t *trust) runsForeign() {
 // have made. A statement of the client's own that was prepared before such a one ran may be another one by now.
 func (s *Session) binds(p *portal) {
 	if st := p.on; st != nil {
-		p.mayBeOther = st.name != "" && !p.changed && st.others != s.trust.others
+		p.mayBeOther = st.name != "" && !p.changed && st.others != s.trust.others && !controls(st.kind())
 		if k := st.kind(); p.mayBeOther || (k == plan.Select || k == plan.Write) && st.plan.Foreign {
 			s.trust.runsForeign()
 		}
 	}
 	p.others = s.trust.others
+}
+
+// controls reports whether a statement is one that SQL's PREPARE can't make: then another one can't have its name without
+// having another tag, too.
+func controls(kind plan.Kind) bool {
+	switch kind {
+	case plan.Begin, plan.Commit, plan.Rollback, plan.PrepareTransaction, plan.Savepoint, plan.RollbackTo, plan.Release, plan.Empty:
+		return true
+	}
+	return false
+}
+
+// isOther reports whether a tag shows that another statement has the name of one that controls transactions. Whoever has
+// put it there may have replaced anything.
+func isOther(st *statement, tag []byte) bool {
+	if st == nil || st.name == "" || !controls(st.kind()) {
+		return false
+	}
+	switch verb, _ := counted(tag); verb {
+	case "SELECT", "INSERT", "UPDATE", "DELETE", "MERGE":
+		return true
+	}
+	return false
 }
 
 // runsPortal is called before a portal is run, and reports whether its name may stand for another one by now. What it runs
@@ -152,9 +175,14 @@ func (t *trust) syncs(status byte) {
 // anything reported: nothing more of the connection is.
 func (s *Session) uses(name string) {
 	if len(name) > len(reserved) && strings.HasPrefix(name, reserved) && (name[len(reserved)] == '.' || name[len(reserved)] == '_') {
-		s.trust.taken = true
-		s.trust.doubtful(setSomething)
+		s.distrust()
 	}
+}
+
+// distrust has nothing more of the connection reported.
+func (s *Session) distrust() {
+	s.trust.taken = true
+	s.trust.doubtful(setSomething)
 }
 
 // deallocated forgets a statement that SQL's DEALLOCATE names. Its twin is closed at an idle moment.

@@ -244,6 +244,9 @@ func (t *transaction) undone() record.Outcome {
 
 // ran handles a statement that has ended successfully, with its tag.
 func (s *Session) ran(e *expectation, tag []byte) {
+	if isOther(e.on, tag) {
+		s.distrust()
+	}
 	p := e.current()
 	if (p == nil || p.MayCommit) && e.message == 'E' && !s.tx.block {
 		defer func() { s.tx.parted = true }()
