@@ -25,6 +25,8 @@ func (s *Session) absent(p *plan.Plan, e *expectation, noted *record.Statement) 
 		reason = "a row that wasn't there, at read committed or for an unknown key"
 	case s.status != 'T':
 		reason = "a row that wasn't there, asked for by a transaction of one statement"
+	case reason == "" && e.replaced:
+		reason = maybeAnother
 	case reason == "" && !e.knowsTables():
 		reason = otherRelation
 		s.isOverOthers(e)

@@ -126,6 +126,8 @@ func (s *Session) askedBy(p *plan.Plan, e *expectation, noted *record.Statement,
 		why = a.why
 	case a.rows >= a.Most && !a.writes:
 		why = cutOff
+	case e.replaced:
+		why = maybeAnother
 	case !e.knowsTables():
 		why = otherRelation
 		s.isOverOthers(e)

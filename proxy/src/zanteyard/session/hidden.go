@@ -7,6 +7,9 @@ import (
 	"zanteyard/record"
 )
 
+// maybeAnother is why reads of a cursor or a portal are left out that others may have put in the place of the client's.
+const maybeAnother = "a cursor or portal that may be another one by now: what others have made has run since it was made"
+
 // hidden takes the hidden columns of a row.
 func (s *Session) hidden(e *expectation, values [][]byte) {
 	p, isBinary := e.hides, e.binary
@@ -34,7 +37,7 @@ func (s *Session) hidden(e *expectation, values [][]byte) {
 			reads = append(reads[:0], record.Read{}) // none is reported
 		}
 	case e.replaced || s.trust.taken:
-		reason = "a cursor or portal that may be another one by now: what others have made has run since it was made"
+		reason = maybeAnother
 	}
 	if reason != "" && len(reads) > 0 {
 		s.notSeen(p.Shape, reason, true)

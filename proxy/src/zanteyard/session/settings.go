@@ -107,7 +107,7 @@ func (t *trust) runsForeign() {
 // have made. A statement of the client's own that was prepared before such a one ran may be another one by now.
 func (s *Session) binds(p *portal) {
 	if st := p.on; st != nil {
-		p.mayBeOther = st.name != "" && !p.changed && st.others != s.trust.others && !controls(st.kind())
+		p.mayBeOther = st.name != "" && !p.changed && st.others != s.trust.others && !st.isUtility()
 		if k := st.kind(); p.mayBeOther || (k == plan.Select || k == plan.Write) && st.plan.Foreign {
 			s.trust.runsForeign()
 		}
@@ -115,12 +115,15 @@ func (s *Session) binds(p *portal) {
 	p.others = s.trust.others
 }
 
-// controls reports whether a statement is one that SQL's PREPARE can't make: then another one can't have its name without
-// having another tag, too.
-func controls(kind plan.Kind) bool {
-	switch kind {
-	case plan.Begin, plan.Commit, plan.Rollback, plan.PrepareTransaction, plan.Savepoint, plan.RollbackTo, plan.Release, plan.Empty:
+// isUtility reports whether a statement is one that SQL's PREPARE can't make, and whose tag says so: then another one can't
+// have its name without having another tag, too.
+func (st *statement) isUtility() bool {
+	switch st.kind() {
+	case plan.Begin, plan.Commit, plan.Rollback, plan.PrepareTransaction, plan.Savepoint, plan.RollbackTo, plan.Release,
+		plan.Declare, plan.Fetch, plan.CloseCursor, plan.Prepare, plan.Deallocate, plan.DiscardAll, plan.Copy, plan.Empty:
 		return true
+	case plan.Other:
+		return st.plan != nil && !st.plan.Unknown // SHOW, for instance
 	}
 	return false
 }
@@ -128,7 +131,7 @@ func controls(kind plan.Kind) bool {
 // isOther reports whether a tag shows that another statement has the name of one that controls transactions. Whoever has
 // put it there may have replaced anything.
 func isOther(st *statement, tag []byte) bool {
-	if st == nil || st.name == "" || !controls(st.kind()) {
+	if st == nil || st.name == "" || !st.isUtility() {
 		return false
 	}
 	switch verb, _ := counted(tag); verb {

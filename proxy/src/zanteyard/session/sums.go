@@ -165,6 +165,8 @@ func (s *Session) sumSelect(p *plan.Plan, e *expectation, reason string, n uint6
 		}
 	case len(p.Unseen) > 0:
 		d.Leave(p.Unseen[0].Reason, true, one, 0, n)
+	case e.missed > 0:
+		d.Leave(e.why, e.rows > e.missed, one, 0, uint64(e.missed))
 	case e.beyond > 0:
 		d.Leave(tooManyRows, e.rows > e.beyond, one, 0, uint64(e.beyond+e.loose))
 	case e.loose > 0:
