@@ -49,7 +49,7 @@ class Explaining(unittest.TestCase):
 
     def test_what_has_an_order(self):
         told = explain_history([[txn(writes="x")], [txn(("x", "init"))]], program=PLAIN)
-        self.assertEqual((told.arcs, told.lines), ((), ("the auditor finds these by themselves serial",)))
+        self.assertEqual((told.arcs, told.lines), ((), ("checked by themselves, these transactions are serial",)))
 
     def test_statements_are_told_of_what_is_left(self):
         select, update = "SELECT v FROM t\n  WHERE k = 'x'", "UPDATE t SET v = v + 1 WHERE k = 'y' RETURNING name"

@@ -210,40 +210,13 @@ class Faults(unittest.TestCase):
         self.wait_for(self.is_audited)
         self.ended(application, "none", "serial")
 
-    def children(self, pid):
-        call = ["ps", "-o", "pid=", "--ppid", str(pid)]
-        found = subprocess.run(call, stdout=subprocess.PIPE, text=True)
-        return [int(line) for line in found.stdout.split()]
-
     def test_cobra_audit_is_killed(self):
         self.audit()
         application = self.application()
         self.wait_for(self.is_audited)
-        for pid in self.children(self.auditor.process.pid):
-            os.kill(pid, signal.SIGKILL)
+        self.auditor.program.kill()
         self.wait_for(self.began_anew)
         self.ended(application, "`cobra_audit` is killed")
-
-    def test_the_process_between_is_killed(self):
-        self.audit()
-        application = self.application()
-        self.wait_for(self.is_audited)
-        self.auditor.process.kill()
-        self.wait_for(self.began_anew)
-        self.ended(application, "the process between is killed")
-
-    def test_the_process_between_stands_still(self):
-        self.audit()
-        application = self.application()
-        self.wait_for(self.is_audited)
-        stands = self.auditor.process
-        os.kill(stands.pid, signal.SIGSTOP)
-        self.wait_for(lambda: self.live._lost)
-        done = application.done
-        self.wait_for(lambda: application.done > done + 10)
-        os.kill(stands.pid, signal.SIGCONT)
-        self.wait_for(self.began_anew)
-        self.ended(application, "the process between stands still")
 
     def test_a_client_hangs_in_a_transaction(self):
         self.audit(limit=1000)  # so that there is soon no room

@@ -66,10 +66,10 @@ class Interrupts(unittest.TestCase):
         logging.getLogger("zanteyard").setLevel(logging.CRITICAL)
         self.addCleanup(logging.getLogger("zanteyard").setLevel, logging.NOTSET)
 
-    def each(self, deed, step, first=1):
-        """Interrupts the deed at one place after another."""
+    def each(self, deed, step, first=1, of=Auditor):
+        """Interrupts the deed at one place after another, each time with an auditor of its own."""
         for at in range(first, 4000, step):
-            with Auditor(3) as auditor, self.subTest(at=at):
+            with of(3) as auditor, self.subTest(at=at):
                 killed = self.have_kills_come_late(auditor)
                 store = MemoryStore()
                 a, b = (Session(auditor, number, store.connect()) for number in range(2))

@@ -126,7 +126,7 @@ class Elsewhere(TwoProcesses, test_live.Meetings):
 
     def test_who_comes_after_the_end_is_told(self):
         live, store = self.live(2, every=1), MemoryStore()
-        self.kill()
+        self.auditor.program.kill()
         self.client.session(store.connect()).run(add_one("x"))
         self.wait_for(lambda: live.is_over)
         other = self.another()
@@ -238,8 +238,15 @@ class Elsewhere(TwoProcesses, test_live.Meetings):
         return live.cuts > 0
 
     def test_a_key_that_can_not_be_handed_over_ends_the_audit_and_no_client(self):
-        told = "can't hand over transaction 0 of session 0"
-        self.assertIn(told, str(self.failure_by_a_key()))
+        class Key(str):
+            """Can't be packed."""
+
+        live, store = self.live(1), MemoryStore()
+        a = live.session(store.connect())
+        a.run(add_one(Key("x")))
+        self.assertEqual(a.run(lambda transaction: transaction.get("x")), 1)
+        self.wait_for(lambda: live.is_over)
+        self.assertIn("can't hand over transaction 0 of session 0", str(live.failure))
 
     def test_another_program_is_let_in(self):
         live = self.live(1)

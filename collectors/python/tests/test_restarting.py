@@ -245,8 +245,8 @@ class Interrupted(WithJournal):
 
         case, step = test_interrupts.Interrupts("test_a_round"), 5 if PROGRAM != PLAIN else 37
         before, case.see = case.see, see
-        case.each(auditor, lambda auditor, session: session.run(add_one("x")), step)
-        case.each(auditor, lambda auditor, _: auditor.round(), step)
+        case.each(lambda auditor, session: session.run(add_one("x")), step, of=auditor)
+        case.each(lambda auditor, _: auditor.round(), step, of=auditor)
 
 
 class Shown(WithJournal):

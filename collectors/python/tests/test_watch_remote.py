@@ -18,6 +18,7 @@ from zanteyard.trial.postgres_server import PostgresServer, program
 from zanteyard.trial.redis_server import RedisServer, redis_server
 from zanteyard.watch.pages import _figures as figures
 from zanteyard.watch.pages import _live_page as live_page
+from zanteyard.watch.pages import _prometheus as prometheus
 from zanteyard.watch.postgres._database import Database
 from zanteyard.watch.outcome._feed import command, seen_of
 from zanteyard.watch.proxy._proxy_program import proxy_path
@@ -84,14 +85,14 @@ class Words(unittest.TestCase):
         page = live_page.whole_page(status(seen=seen))
         for wanted in ("Other proxies", "web-2", "silent for 9.0 s", "3 messages refused", "refused."):
             self.assertIn(wanted, page)
-        told = figures.text_of(figures.families(status(seen=seen)))
+        told = prometheus.text_of(figures.families(status(seen=seen)))
         for wanted in ("other_proxies 0", "messages_refused_total 3", "redis_up 0"):
             self.assertIn(f"zanteyard_{wanted}\n", told)
         evil = {"proxies": [{"name": EVIL}], "down": EVIL}
         page = live_page.whole_page(status(seen=seen_of(feed.coverage(remote=evil))))
         self.assertEqual((page.count(SHOWN_EVIL), EVIL in page), (2, False))
         self.assertNotIn("Other proxies", live_page.whole_page(status()))
-        self.assertNotIn("redis_up", figures.text_of(figures.families(status())))
+        self.assertNotIn("redis_up", prometheus.text_of(figures.families(status())))
         self.assertIsNone(seen_of(feed.coverage(remote=5)).others)
         for wrong, count in (({"proxies": 7}, 0), ({"proxies": [3]}, 1), ({}, 0)):
             self.assertEqual(len(seen_of(feed.coverage(remote=wrong)).others.proxies), count)
