@@ -75,3 +75,38 @@ func TestTwinOfAPartThatFails(t *testing.T) {
 		}
 	}
 }
+
+// TestFetchFromACursorThatIsGone: PostgreSQL crashes if it has to describe a FETCH from a cursor that is closed by then. So the
+// proxy doesn't ask for that, and the client gets what it would without the proxy.
+func TestFetchFromACursorThatIsGone(t *testing.T) {
+	needServer(t)
+	sql(t, fill)
+	sql(t, `CREATE OR REPLACE FUNCTION opens() RETURNS refcursor LANGUAGE plpgsql AS $$DECLARE c refcursor := 'opened'; BEGIN
+		OPEN c FOR SELECT v FROM t WHERE id < 6 ORDER BY id; RETURN c; END$$`)
+	sync := &pgproto3.Sync{}
+	two := &pgproto3.Execute{Portal: "p", MaxRows: 2}
+	bound := func(text string, more ...pgproto3.FrontendMessage) step {
+		return messages('Z', append(append([]pgproto3.FrontendMessage{&pgproto3.Parse{Name: "f", Query: text},
+			&pgproto3.Bind{PreparedStatement: "f", DestinationPortal: "p"}}, more...), sync)...)
+	}
+	declare, drop := query("DECLARE c CURSOR FOR SELECT v FROM t WHERE id < 6 ORDER BY id"), messages('Z', &pgproto3.Close{ObjectType: 'S', Name: "f"}, sync)
+	for name, steps := range map[string][]step{
+		"before it is run": {query("BEGIN"), declare, bound("FETCH 1 FROM c"), query("CLOSE c"), messages('Z', two, sync), query("ROLLBACK"), drop},
+		"while it is run":  {query("BEGIN"), declare, bound("FETCH ALL FROM c", two), query("CLOSE c"), messages('Z', two, sync), query("ROLLBACK"), drop},
+		"a function's":     {query("BEGIN"), query("SELECT opens()"), bound("FETCH ALL FROM opened", two), query("CLOSE opened"), messages('Z', two, sync), query("ROLLBACK"), drop},
+		"another of its name": {query("BEGIN"), declare, bound("FETCH 2 FROM c"), query("CLOSE c"), query("DECLARE c CURSOR FOR SELECT v, w FROM t WHERE id < 4 ORDER BY id"),
+			messages('Z', two, sync), query("ROLLBACK"), drop},
+		"in one write": {query("BEGIN"), declare, bound("FETCH 2 FROM c", two), messages('Z', two, sync), query("ROLLBACK"), drop},
+	} {
+		plain, p := direct(t, "postgres"), through(t, "postgres", nil)
+		p.warm("BEGIN", "DECLARE c CURSOR FOR SELECT v FROM t WHERE id < 6 ORDER BY id", "FETCH 2 FROM c", "ROLLBACK")
+		p.warm("BEGIN", "DECLARE c CURSOR FOR SELECT v, w FROM t WHERE id < 4 ORDER BY id", "FETCH 2 FROM c", "ROLLBACK")
+		for again := 0; again < 2; again++ {
+			for i, step := range steps {
+				if got, want := show(p.do(step)), show(plain.do(step)); got != want {
+					t.Errorf("%s, step %d: got\n%s\nand not\n%s", name, i, got, want)
+				}
+			}
+		}
+	}
+}

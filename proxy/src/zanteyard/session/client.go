@@ -256,6 +256,7 @@ func (s *Session) bind(o *output, m []byte, start, end int) {
 	if st == nil {
 		o.pass(start, end)
 		s.bindTo(p, beyond)
+		s.describeFetch(o, p, b.Portal, beyond)
 		return
 	}
 	if k := st.kind(); k == plan.Commit || k == plan.PrepareTransaction {
@@ -296,6 +297,16 @@ func (s *Session) bind(o *output, m []byte, start, end int) {
 		p.parameters, p.more = texts(b, st.types)
 	}
 	s.bindTo(p, beyond)
+	s.describeFetch(o, p, b.Portal, beyond)
+}
+
+// describeFetch appends a Describe of a portal that may be a FETCH, directly behind its Bind.
+func (s *Session) describeFetch(o *output, p *portal, name []byte, beyond bool) {
+	if beyond || p.hides != nil || !s.mayBeFetch(p.on) {
+		return
+	}
+	o.buf = appendDescribePortal(o.own(), name)
+	s.queue.push(expectation{kind: portalColumns, message: 'D', at: p})
 }
 
 // bindTo records a portal that was bound; beyond the bound for portals it isn't known.
@@ -440,7 +451,7 @@ func (s *Session) execute(o *output, m []byte, start, end int) {
 		s.trust.changed(unparsed)
 		s.trust.runsForeign()
 	}
-	if s.runsUnseen(e.on); s.mayFetch(e.on, e.on.plan) || p != nil && s.lacksDescription(p) {
+	if s.runsUnseen(e.on); p == nil && s.mayFetch(e.on, nil) || p != nil && s.lacksDescription(p) {
 		o.buf = appendDescribePortal(o.own(), name)
 		s.queue.push(expectation{kind: portalColumns, message: 'D'})
 	}

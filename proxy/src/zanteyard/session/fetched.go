@@ -9,8 +9,55 @@ import (
 
 // The rows of a cursor whose query was rewritten have hidden columns, however they are fetched. Mostly the FETCH is looked
 // at, and names the cursor. One that isn't (its text is too long, in an encoding that isn't read, or of a statement or
-// portal that isn't known any more) is recognized by the columns that it returns. An Execute of such a one is preceded by
-// a Describe of the proxy's own, since its rows may come without a description.
+// portal that isn't known any more) is recognized by the columns that it returns. Since its rows may come without a
+// description, a portal that may be a FETCH is described directly behind its Bind. Later the cursor may be gone, and a
+// server that describes a FETCH from a cursor that is gone crashes.
+
+// foretold is what the Describe behind the Bind of a FETCH's portal has shown of its rows.
+type foretold struct {
+	of      *cursor // nil if it was recognized by its columns
+	hides   *plan.Plan
+	hidden  int
+	columns int
+	binary  bool
+	isOver  bool
+}
+
+// mayBeFetch reports whether a portal of this statement has to be described.
+func (s *Session) mayBeFetch(st *statement) bool {
+	switch {
+	case !s.names.hides:
+		return false
+	case st == nil:
+		return s.names.forgot
+	case st.plan == nil:
+		return !st.fetchesNot
+	}
+	return st.kind() == plan.Fetch
+}
+
+// foretells takes the description of a FETCH's portal.
+func (s *Session) foretells(p *portal, columns []wire.Column) {
+	x := expectation{on: p.on}
+	var of *cursor
+	if s.fetched(&x); x.hides != nil {
+		of = s.names.cursors[x.current().Name]
+	} else if s.recognizes(&x, columns); x.hides == nil {
+		return
+	}
+	x.shows(columns)
+	p.told = &foretold{of, x.hides, x.hidden, len(columns), columns[len(columns)-1].Format == 1, x.isOver}
+}
+
+// presumes takes a row for one of what was described behind the Bind, if nothing better is known and it has as many columns.
+func (e *expectation) presumes(m []byte) {
+	if e.hides != nil || e.at == nil || e.at.told == nil || len(m) < wire.Header+2 || wire.Int16(m[wire.Header:]) != e.at.told.columns {
+		return
+	}
+	told := e.at.told
+	e.hides, e.hidden, e.binary = told.hides, told.hidden, told.binary
+	e.guessed, e.replaced = true, true
+}
 
 // mayFetch reports whether what is run may be a FETCH of which it isn't known from which cursor: p is its plan, nil if it
 // wasn't looked at.

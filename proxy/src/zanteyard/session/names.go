@@ -61,11 +61,12 @@ type portal struct {
 	more       int // parameters beyond those
 	counted    bool
 	asking     *asking
-	described  bool   // a Describe of it was sent
-	isOver     bool   // its description shows that it is run over the tables of its plan
-	others     uint64 // what trust counted when it was bound or run: its name may stand for another portal afterwards
-	replaced   bool   // it may
-	mayBeOther bool   // its statement's name stood for another one when it was bound
+	told       *foretold // of a FETCH
+	described  bool      // a Describe of it was sent
+	isOver     bool      // its description shows that it is run over the tables of its plan
+	others     uint64    // what trust counted when it was bound or run: its name may stand for another portal afterwards
+	replaced   bool      // it may
+	mayBeOther bool      // its statement's name stood for another one when it was bound
 }
 
 // names records what the names of a connection stand for. Changes that the server didn't get to are undone

@@ -1,9 +1,6 @@
 package session
 
-import (
-	"zanteyard/plan"
-	"zanteyard/wire"
-)
+import "zanteyard/wire"
 
 // What a statement's names mean is tried before it is sent rewritten, and may change until it runs. So nothing that it
 // reads is reported before the server has shown, in the description of this very run, that it is over the tables of its
@@ -15,24 +12,11 @@ const otherRelation = "another relation has the name of a table"
 
 // lacksDescription reports whether a portal has to be described before it is executed.
 func (s *Session) lacksDescription(p *portal) bool {
-	if p.hides == nil {
-		return s.names.hides && p.on.kind() == plan.Fetch
-	}
-	if p.described || !p.hides.Described() {
+	if p.hides == nil || p.described || !p.hides.Described() {
 		return false
 	}
 	p.described = true
 	return true
-}
-
-// foretells takes the description of a portal that is executed next.
-func (s *Session) foretells(next *expectation, columns []wire.Column) {
-	if s.fetched(next); next.hides == nil {
-		s.recognizes(next, columns)
-	}
-	if next.hides != nil {
-		next.shows(columns)
-	}
 }
 
 // shows takes the description of a result with hidden columns.

@@ -160,8 +160,14 @@ func (s *Session) description(o *output, e *expectation, m []byte, start, end in
 	case e.kind == trialColumns:
 		e.use.described(m, s)
 	case e.kind == portalColumns:
-		if next := s.queue.second(); ok && next != nil && next.message == 'E' {
-			s.foretells(next, columns)
+		switch next := s.queue.second(); {
+		case !ok:
+		case e.at != nil:
+			s.foretells(e.at, columns)
+		case next != nil && next.message == 'E' && next.hides != nil:
+			next.shows(columns)
+		case next != nil && next.message == 'E':
+			s.recognizes(next, columns)
 		}
 	case e.hidden > 0:
 		if ok {
@@ -202,6 +208,7 @@ func (s *Session) fetched(e *expectation) {
 	}
 	if p := s.names.cursors[fetch.Name]; p != nil {
 		e.hides, e.hidden, e.replaced = p.plan, hiddenColumns(p.plan), p.era != e.era
+		e.isOver = e.isOver || e.at != nil && e.at.told != nil && e.at.told.of == p && e.at.told.isOver
 	}
 }
 
@@ -216,6 +223,7 @@ func (s *Session) row(o *output, e *expectation, m []byte, start, end int, pass 
 		e.from = len(s.tx.Reads)
 		s.tx.reading = record.Select{From: int32(e.from)}
 		s.fetched(e)
+		e.presumes(m)
 	}
 	if e.hidden == 0 {
 		if pass {
