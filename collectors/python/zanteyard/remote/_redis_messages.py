@@ -74,12 +74,13 @@ def opened(fields: dict[bytes, bytes], signer: Signer) -> Message:
 
 
 class StreamReader:
-    """Reads a stream, for one thread. `looked` is when the last read began that was answered, by
-    the monotonic clock: who isn't heard by then was silent, even if this process was stopped."""
+    """Reads a stream, for one thread. `looked` is when the last read began that returned all there
+    was, by the monotonic clock: who isn't heard by then was silent, even if this process was
+    stopped."""
 
     def __init__(self, shared: SharedRedis, stream: str, after: bytes = b"0-0") -> None:
         self._redis, self._stream, self._after = shared.redis, stream, after
-        self.looked = time.monotonic()
+        self.looked = self._answered = time.monotonic()
 
     def read(self) -> Sequence[Entry]:
         """What has arrived. Waits for a moment if nothing has. Raises OSError if the Redis can't be
@@ -88,12 +89,14 @@ class StreamReader:
         try:
             its = self._redis.xread({self._stream: self._after}, AT_ONCE, int(LOOKS * 1000))
         except redis.RedisError as error:
-            if begun - self.looked > SILENCE:
+            if begun - self._answered > SILENCE:
                 raise OSError(f"the Redis can't be reached: {error}") from error
             time.sleep(LOOKS / 4)
             return ()
-        self.looked = begun
+        self._answered = begun
         entries: Sequence[Entry] = its[0][1] if its else ()
+        if len(entries) < AT_ONCE:
+            self.looked = begun
         if entries:
             self._after = entries[-1][0]
         return entries

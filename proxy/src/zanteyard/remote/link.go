@@ -220,9 +220,11 @@ func stream(ctx context.Context, o *Options, name string, take func(*link, []ent
 			if l.most == 1 { // nobody who has the key has sent that: it is passed over, and what is lost by it is counted
 				after = "$"
 			}
-			l.most = 1
+			l.most /= 2
 		} else if err == nil {
-			l.most = 0
+			if l.most *= 2; l.most > atOnce {
+				l.most = atOnce
+			}
 		}
 		if err != nil {
 			lost(err)

@@ -453,7 +453,7 @@ func (s *Session) execute(o *output, m []byte, start, end int) {
 	}
 	if s.runsUnseen(e.on); p == nil && s.mayFetch(e.on, nil) || p != nil && s.lacksDescription(p) {
 		o.buf = appendDescribePortal(o.own(), name)
-		s.queue.push(expectation{kind: portalColumns, message: 'D'})
+		s.queue.push(expectation{kind: portalColumns, message: 'D', at: p})
 	}
 	if e.hides != nil && e.hides.AddsReturning && len(m) >= wire.Header+5 {
 		// The client's statement returned no rows, so its limit meant nothing; now that it returns rows, the limit would mean

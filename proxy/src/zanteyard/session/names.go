@@ -63,6 +63,7 @@ type portal struct {
 	asking     *asking
 	told       *foretold // of a FETCH
 	described  bool      // a Describe of it was sent
+	shown      bool      // the server has described it
 	isOver     bool      // its description shows that it is run over the tables of its plan
 	others     uint64    // what trust counted when it was bound or run: its name may stand for another portal afterwards
 	replaced   bool      // it may
@@ -144,6 +145,9 @@ func (n *names) isBeyond(name string) bool {
 
 // back undoes what a message changed that the server didn't run.
 func (n *names) back(e *expectation) {
+	if e.message == 'D' && e.at != nil {
+		e.at.described = false
+	}
 	switch e.undo {
 	case undoStatement:
 		n.setStatement(e.name, e.previous)

@@ -24,7 +24,7 @@ func (e *expectation) shows(columns []wire.Column) {
 	p := e.hides
 	is := len(columns) >= e.hidden && p.IsOver(columns[len(columns)-e.hidden:])
 	if e.isOver = is; e.at != nil {
-		e.at.isOver = is
+		e.at.isOver, e.at.shown = is, true
 	}
 }
 
@@ -36,6 +36,9 @@ func (e *expectation) knowsTables() bool {
 // isOverOthers is called when a statement was run over something else than was expected: it isn't rewritten any more before
 // something is known to have changed.
 func (s *Session) isOverOthers(e *expectation) {
+	if e.at != nil && !e.at.shown { // the server hasn't said so
+		return
+	}
 	if u := e.use; u != nil && u.state != failed {
 		u.state, u.generation, u.reason = failed, s.trust.generation, otherRelation
 		s.options.Shared.drop(s.trust.signature, u.plan)

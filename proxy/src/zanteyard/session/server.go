@@ -162,7 +162,7 @@ func (s *Session) description(o *output, e *expectation, m []byte, start, end in
 	case e.kind == portalColumns:
 		switch next := s.queue.second(); {
 		case !ok:
-		case e.at != nil:
+		case e.at != nil && e.at.hides == nil:
 			s.foretells(e.at, columns)
 		case next != nil && next.message == 'E' && next.hides != nil:
 			next.shows(columns)
