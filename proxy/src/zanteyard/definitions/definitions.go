@@ -46,7 +46,7 @@ const (
 // How often to look, and to load.
 const (
 	leastPause = time.Second // between two loads, however many changes are reported; less if the regular time is less
-	part       = 100         // the regular looks take one in so many of a processor's time
+	part       = 125         // the regular looks take one in so many of a processor's time
 	compared   = 8           // the shortest of so many looks is what one takes: others have waited
 )
 

@@ -17,8 +17,8 @@ func TestPauses(t *testing.T) {
 	for _, x := range []struct{ every, took, whole, regular, urgent time.Duration }{
 		{time.Second, ms, 30 * ms, time.Second, time.Second},
 		{20 * ms, ms / 10, 10 * ms, 20 * ms, 20 * ms},
-		{time.Second, 100 * ms, 900 * ms, 10 * time.Second, time.Second}, // ten thousand partitions
-		{time.Second, 500 * ms, 5 * time.Second, 50 * time.Second, 5 * time.Second},
+		{time.Second, 100 * ms, 900 * ms, 12500 * ms, time.Second}, // ten thousand partitions
+		{time.Second, 500 * ms, 5 * time.Second, 62500 * ms, 5 * time.Second},
 		{time.Minute, ms, 30 * ms, time.Minute, time.Second},
 	} {
 		regular, urgent := pauses(x.every, x.took, x.whole)
