@@ -94,9 +94,7 @@ func TestFetchFromACursorThatIsGone(t *testing.T) {
 		"before it is run": {query("BEGIN"), declare, bound("FETCH 1 FROM c"), query("CLOSE c"), messages('Z', two, sync), query("ROLLBACK"), drop},
 		"while it is run":  {query("BEGIN"), declare, bound("FETCH ALL FROM c", two), query("CLOSE c"), messages('Z', two, sync), query("ROLLBACK"), drop},
 		"a function's":     {query("BEGIN"), query("SELECT opens()"), bound("FETCH ALL FROM opened", two), query("CLOSE opened"), messages('Z', two, sync), query("ROLLBACK"), drop},
-		"another of its name": {query("BEGIN"), declare, bound("FETCH 2 FROM c"), query("CLOSE c"), query("DECLARE c CURSOR FOR SELECT v, w FROM t WHERE id < 4 ORDER BY id"),
-			messages('Z', two, sync), query("ROLLBACK"), drop},
-		"in one write": {query("BEGIN"), declare, bound("FETCH 2 FROM c", two), messages('Z', two, sync), query("ROLLBACK"), drop},
+		"in one write":     {query("BEGIN"), declare, bound("FETCH 2 FROM c", two), messages('Z', two, sync), query("ROLLBACK"), drop},
 	} {
 		plain, p := direct(t, "postgres"), through(t, "postgres", nil)
 		p.warm("BEGIN", "DECLARE c CURSOR FOR SELECT v FROM t WHERE id < 6 ORDER BY id", "FETCH 2 FROM c", "ROLLBACK")
