@@ -103,8 +103,11 @@ type Joiner struct {
 	heard      uint64    // of all that, what its parent was told of when the audit was stopped
 	hasStopped bool
 	leftOut    uint64 // how many were left out since the auditor fell behind, at the last look
-	unanswered int    // number of rounds whose truncate wasn't answered by a cut
-	placing    bool   // a question for the log's place is under way
+
+	hasNews    bool // something was reported since the last step
+	vain       int  // the steps since anything has happened
+	unanswered int  // number of rounds whose truncate wasn't answered by a cut
+	placing    bool // a question for the log's place is under way
 	placedAt   time.Time
 	answers    answers
 	asking     bool // a question for subtransactions is under way
@@ -161,6 +164,8 @@ func (j *Joiner) give(it fromSlot) error {
 
 const (
 	step     = 5 * time.Millisecond
+	longStep = 5 * step              // while nothing happens
+	calm     = 40                    // steps without anything new, after which they are long
 	giveOut  = 50 * time.Millisecond // each line costs its receivers, however little is in it
 	askSoon  = 20 * time.Millisecond
 	askPlace = 100 * time.Millisecond
@@ -236,6 +241,7 @@ func (j *Joiner) run(ctx context.Context) error {
 			return ctx.Err()
 		case it := <-j.slot():
 			guard.At("a commit")
+			j.isNews(ticker)
 			j.core.now = time.Now() // when it is seen
 			j.gate.put(it)
 			for n := len(j.told); n > 0; n-- {
@@ -246,17 +252,40 @@ func (j *Joiner) run(ctx context.Context) error {
 			j.empty()
 		case f := <-j.replies:
 			guard.At("an answer of the server")
+			j.isNews(ticker)
 			j.core.now = time.Now()
 			f()
 		case f := <-j.commands:
 			guard.At("a command")
+			j.isNews(ticker)
 			j.core.now = time.Now()
 			f()
 		case <-ticker.C:
 			if err := j.tick(ctx); err != nil {
 				return err
 			}
+			j.rest(ticker)
 		}
+	}
+}
+
+// isNews makes steps short again.
+func (j *Joiner) isNews(ticker *time.Ticker) {
+	if j.vain > calm {
+		ticker.Reset(step)
+	}
+	j.vain = 0
+}
+
+// rest is called after a step, and makes the steps long once nothing has happened in many of them. An audit that has
+// nothing to do would else be woken 200 times a second.
+func (j *Joiner) rest(ticker *time.Ticker) {
+	if j.hasNews || j.meeting.phase != apart || !j.sought.IsZero() || j.wanted {
+		j.isNews(ticker)
+	}
+	j.hasNews = false
+	if j.vain++; j.vain == calm+1 {
+		ticker.Reset(longStep)
 	}
 }
 
@@ -328,6 +357,7 @@ func (j *Joiner) empty() {
 		return
 	}
 	its, lost := j.inbox.take()
+	j.hasNews = j.hasNews || len(its) > 0
 	j.core.now = time.Now()
 	for j.taken = its; len(j.taken) > 0; j.taken = j.taken[1:] { // after a fault, the rest is still there
 		one := j.taken[0]

@@ -8,13 +8,21 @@ import (
 )
 
 // Seldom is a plain socket that is looked at from time to time, for readers that aren't in a hurry: data that arrives
-// in between wakes nobody, neither here nor at the sender, and is read together. Its methods are safe for use by
-// several goroutines, except that only one may call Read at a time.
+// in between wakes nobody, neither here nor at the sender, and is read together. After many looks that found nothing,
+// the pauses between them are longer. Its methods are safe for use by several goroutines, except that only one may call
+// Read at a time.
 type Seldom struct {
 	socket
 	pause time.Duration
 	close sync.Once
+	vain  int // the looks since anything was there to read, for Read alone
 }
+
+// After so many looks in vain, a pause is so many times as long.
+const (
+	vainLooks  = 40
+	longPauses = 5
+)
 
 // NewSeldom takes a plain socket out of Go's hands, and closes the original. If it isn't a plain socket, it is left as
 // it is.
@@ -32,9 +40,14 @@ func (s *Seldom) Read(p []byte) (int, error) {
 	for {
 		n, err := s.TryRead(p)
 		if err != ErrWait {
+			s.vain = 0
 			return n, err
 		}
-		time.Sleep(s.pause)
+		if s.vain++; s.vain > vainLooks {
+			time.Sleep(longPauses * s.pause)
+		} else {
+			time.Sleep(s.pause)
+		}
 	}
 }
 

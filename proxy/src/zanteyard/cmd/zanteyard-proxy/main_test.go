@@ -10,6 +10,7 @@ import (
 	"io"
 	"net"
 	"strings"
+	"sync/atomic"
 	"testing"
 	"time"
 
@@ -90,6 +91,9 @@ type program struct {
 	say    io.Writer
 	cancel func()
 	ended  chan error
+
+	sessions atomic.Int32 // that the audit has
+	isJudged atomic.Bool  // rounds are answered by the test itself
 }
 
 func begin(t *testing.T, c *cluster.Cluster, more ...string) *program {
@@ -114,9 +118,12 @@ func begin(t *testing.T, c *cluster.Cluster, more ...string) *program {
 	go func() {
 		defer close(p.lines)
 		s := bufio.NewScanner(outFrom)
-		sessions := 0
 		for s.Buffer(nil, 64<<20); s.Scan(); {
-			sessions = answer(s.Text(), sessions, inTo)
+			to := io.Writer(inTo)
+			if p.isJudged.Load() {
+				to = io.Discard
+			}
+			p.sessions.Store(int32(answer(s.Text(), int(p.sessions.Load()), to)))
 			p.lines <- s.Text()
 		}
 		if err := s.Err(); err != nil {

@@ -14,8 +14,8 @@ type referee struct {
 	p                       *program
 	b                       *battlefield
 	g                       *graph
-	pending                 [][2]int // not yet described
-	marks                   [64]int
+	pending                 [][2]int                   // not yet described
+	marks                   []int                      // of each session: what is below is forgotten
 	given                   []enemyTold                // described, and to be compared once their writers are known
 	names                   map[string]string          // by tag
 	wrote                   map[string]map[string]bool // the rows, by name
@@ -38,6 +38,9 @@ func (j *referee) next(end <-chan time.Time) (its []enemyTold, answered bool, li
 	}
 	if line == "" {
 		j.t.Fatal("the feed ended")
+	}
+	if strings.Contains(line, "these marks belong to another audit") {
+		j.t.Fatal(line) // nothing would be forgotten, and soon there would be no room
 	}
 	j.pending = append(j.pending, j.g.take(line)...)
 	if strings.HasPrefix(line, `{"event":"transactions"`) {
@@ -70,6 +73,9 @@ func (j *referee) describe() {
 			j.given = append(j.given, its...)
 		}
 		for _, id := range some {
+			for len(j.marks) <= id[0] {
+				j.marks = append(j.marks, 0)
+			}
 			if id[1]+1 > j.marks[id[0]] {
 				j.marks[id[0]] = id[1] + 1
 			}
@@ -86,6 +92,9 @@ func (j *referee) watch(enough int) {
 			before := j.given
 			j.given = nil
 			j.describe()
+			for len(j.marks) < int(j.p.sessions.Load()) {
+				j.marks = append(j.marks, 0)
+			}
 			text, _ := json.Marshal(map[string]any{"command": "cut", "marks": j.marks})
 			fmt.Fprintln(j.p.say, string(text))
 			j.named(j.given)

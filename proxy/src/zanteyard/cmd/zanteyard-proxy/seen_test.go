@@ -181,9 +181,6 @@ func (w *watched) next(end <-chan time.Time) (line string, it event) {
 		for i := range fragment {
 			w.ids = append(w.ids, [2]int{session, first + i})
 		}
-	case line == `["truncate"]`:
-		text, _ := json.Marshal(map[string]any{"command": "cut", "marks": make([]int, 64)})
-		fmt.Fprintln(w.say, string(text))
 	}
 	if it.Event == "ended" {
 		w.t.Fatal(line)
