@@ -13,7 +13,7 @@ import (
 // arrives when it is full is dropped, which folds it. Connections and moments aren't dropped, since they are few. Safe
 // for use by many goroutines.
 type Inbox struct {
-	wake chan struct{} // it is half full
+	wake chan struct{} // it is half full, or a connection waits for a session
 	now  func() time.Time
 
 	lock   sync.Mutex
@@ -103,7 +103,8 @@ func (b *Inbox) Moment(number uint64, held time.Duration) {
 }
 
 func (b *Inbox) put(it message, bytes int) {
-	if !b.add(it, bytes) {
+	begins := it.connection != nil && !it.connection.Ended // what it does before it has a session isn't checked
+	if !b.add(it, bytes) && !begins {
 		return // the joiner empties it at its next step, and would do nothing with it before
 	}
 	select {

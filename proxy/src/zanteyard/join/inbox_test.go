@@ -21,6 +21,20 @@ func TestInboxWakes(t *testing.T) {
 	}
 }
 
+// TestInboxWakesForConnections: while nothing happens, the joiner's steps are long.
+func TestInboxWakesForConnections(t *testing.T) {
+	b := NewInbox(10_000)
+	b.Connection(record.Connection{Number: 1})
+	if len(b.wake) == 0 {
+		t.Error("a connection that begins doesn't wake the joiner")
+	}
+	<-b.wake
+	b.Connection(record.Connection{Number: 1, Ended: true})
+	if len(b.wake) > 0 {
+		t.Error("a connection that ends wakes the joiner")
+	}
+}
+
 // TestInboxCountsAnew: an audit doesn't get the counts of a previous one, and none of those are lost.
 func TestInboxCountsAnew(t *testing.T) {
 	b := NewInbox(sizeOf(&record.Transaction{}))
