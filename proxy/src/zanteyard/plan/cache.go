@@ -215,10 +215,11 @@ func (c *Cache) locate(state *cached, p *Plan, text string, list []token) (*Plan
 		}
 	}
 	tokens := Tokens{at: nowhere}
-	if p.insertion.text != "" {
-		where := list[p.insertion.token]
-		if tokens.at = int(where.start); p.insertion.behind {
-			tokens.at = int(where.last)
+	for i, one := range p.insertions {
+		if at := one.in(list); i == 0 {
+			tokens.at = at
+		} else {
+			tokens.further = append(tokens.further, at)
 		}
 	}
 	for i, part := range p.asked {

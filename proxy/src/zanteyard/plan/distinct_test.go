@@ -116,7 +116,7 @@ func TestDistinctByAnyPlan(t *testing.T) {
 		if why := reasons(p); p.Hidden() == 0 || why != "" && why != "a join that the server may skip" {
 			t.Fatalf("statement %d isn't seen: %s: %q", seed, text, reasons(p))
 		}
-		rewritten, _, _ := p.Rewrite(text, tokens)
+		rewritten, _ := p.Rewrite(text, tokens)
 		otherPlans(t, connection, r)
 		plain := ask(connection, text, 0)
 		otherPlans(t, connection, r)
@@ -160,7 +160,7 @@ func TestDistinctListsOnce(t *testing.T) {
 		"SELECT DISTINCT p.s, q.s AS x FROM p JOIN q ON q.a = p.n WHERE p.id < 60 AND q.b < 20 ORDER BY x, p.s",
 	} {
 		p, tokens := cache.Plan(text)
-		rewritten, _, _ := p.Rewrite(text, tokens)
+		rewritten, _ := p.Rewrite(text, tokens)
 		from := strings.Index(rewritten, "pg_catalog.clock_timestamp()")
 		changed := rewritten
 		for from >= 0 {

@@ -64,6 +64,8 @@ func (m *maker) follow(p *Plan, body node) (*follow, string) {
 		return nil, writesToo
 	case len(p.Sources) != 1 || len(body.list("fromClause")) != 1:
 		return nil, severalTables
+	case kindFound(body["fromClause"], "RangeSubselect"):
+		return nil, aSubqueryInFrom
 	case body.has("groupClause"):
 		return nil, "GROUP BY"
 	case body.has("distinctClause"):

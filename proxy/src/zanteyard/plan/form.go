@@ -119,6 +119,12 @@ func hasOneForm(column catalog.Column) bool {
 }
 
 func (n *planned) write(out *strings.Builder) {
+	if n.Type == "Subquery Scan" && len(n.Plans) == 1 { // it only computes columns, and isn't there if it computes none
+		below := n.Plans[0]
+		below.Place = n.Place
+		below.write(out)
+		return
+	}
 	kind := n.Type
 	if kind == "Index Only Scan" {
 		kind = "Index Scan"

@@ -23,6 +23,8 @@ type fromClause struct {
 	// unsorted means that ORDER BY doesn't decide in which order the groups are.
 	unsorted bool
 	group    []any // of GROUP BY
+	derived  []*derived
+	word     int // of a subquery: its FROM
 }
 
 // item is a table of a FROM clause.
@@ -38,6 +40,9 @@ type item struct {
 	converts bool // the connection's texts are in another encoding than the server's
 	listed   bool // the rows that an aggregate was made of are listed
 	typed    bool // no description shows over which relation the statement is run
+	// If a subquery in FROM passes its columns on: their names in its result, by their own. named means that it names its table.
+	passed map[string]string
+	named  bool
 }
 
 // read reads a statement's FROM clause and what the rest of the statement mentions.
@@ -73,8 +78,8 @@ func (f *fromClause) walk(entry any, at place) {
 		f.collect(body["args"], 0)
 	case "RangeSubselect":
 		f.items++
-		if !body.node("subquery").node("SelectStmt").has("valuesLists") { // VALUES reads no table
-			f.plan.leaveOut("a subquery in FROM")
+		if query := body.node("subquery").node("SelectStmt"); !query.has("valuesLists") { // VALUES reads no table
+			f.derived = append(f.derived, &derived{query: query, alias: body.node("alias"), at: at, place: f.items})
 		}
 		f.collect(entry, 0)
 	default: // a function, whose reads are counted like those of all functions

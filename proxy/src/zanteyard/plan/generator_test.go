@@ -138,9 +138,9 @@ func (w *writer) condition(depth int) {
 
 // table writes a table of FROM, and its name.
 func (w *writer) table() {
-	if w.once(12) {
-		w.say(w.pick("LATERAL", ""), "(", "SELECT", "id", ",", "n", "FROM", w.pick(nastyTables...), "ORDER BY", "id", ",", "n",
-			"LIMIT", "3", ")")
+	if w.once(8) {
+		w.say(w.pick("LATERAL", ""))
+		w.subquery(2)
 		w.alias()
 		return
 	}
@@ -161,6 +161,40 @@ func (w *writer) table() {
 		return
 	}
 	w.alias()
+}
+
+// subquery writes a SELECT in parentheses that has the columns id and n, and maybe more.
+func (w *writer) subquery(depth int) {
+	table := w.pick(nastyTables...)
+	w.say("(", "SELECT")
+	if w.once(8) {
+		w.say(w.pick("DISTINCT", "DISTINCT ON (q.id)", "ALL"))
+	}
+	w.say(w.pick("id, n", "q.*", "*", "id, n, n AS from", "n, id", "q . id, q . n, count(*) OVER () AS c", "q.id, q.n, q.id AS n",
+		"id, extract(year FROM now()), n", "id, n, (SELECT 1 FROM link LIMIT 1) AS one"))
+	w.say("FROM")
+	switch {
+	case depth > 0 && w.once(3):
+		w.subquery(depth - 1)
+		w.say("q")
+	case w.once(6):
+		w.say(table, "q", "JOIN", w.pick(nastyTables...), "r", "USING", "(", "id", ",", "n", ")")
+	case w.once(6):
+		w.say(table, "q", "LEFT JOIN", w.pick(nastyTables...), "r", "ON", "r.id = q.n", "AND", "q.id > 2")
+	default:
+		w.say(table, "q")
+	}
+	if w.once(3) {
+		w.say("WHERE", w.pick("q.id > 2", "q.n = 1 OR q.id = 3", "q.id IS DISTINCT FROM 4"))
+	}
+	switch w.Intn(5) {
+	case 0, 1:
+		w.say("ORDER BY", "q.id", ",", "q.n")
+		w.say(w.pick("", "LIMIT 3", "OFFSET 1"))
+	case 2:
+		w.say(w.pick("FOR UPDATE", "FOR SHARE", "GROUP BY q.id, q.n", "UNION ALL SELECT 1, 2", "ORDER BY 1, 2"))
+	}
+	w.say(")")
 }
 
 func (w *writer) alias() {

@@ -50,14 +50,17 @@ func (h *hiding) reads(it *item) {
 }
 
 func (h *hiding) system(it *item, names []string) {
-	if !h.sole {
+	if it.passed != nil && it.named || it.passed == nil && !h.sole {
 		h.proves(it.written, names)
 	}
 	h.value(h.of(it, "xmin"))
 }
 
-// of names a column of a table.
+// of names a column of a table, or the one by which a subquery passes it on.
 func (h *hiding) of(it *item, column string) string {
+	if it.passed != nil {
+		column = it.passed[column]
+	}
 	if h.sole {
 		return column
 	}

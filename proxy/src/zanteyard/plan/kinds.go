@@ -231,7 +231,7 @@ func (m *maker) wrapped(p *Plan, stmt statement, kind Kind, name string, body no
 	}
 	m.cursor, m.prepared = kind == Declare, kind == Prepare
 	p.Inner = m.query(stmt, inner, query, start)
-	p.insertion, p.Inner.insertion = p.Inner.insertion, insertion{}
+	p.insertions, p.Inner.insertions = p.Inner.insertions, nil
 	p.positions, p.Inner.positions = p.Inner.positions, nil
 	p.sample, p.relations = p.Inner.sample, p.Inner.relations
 	p.Inner.sample, p.Inner.relations = "", nil

@@ -100,7 +100,7 @@ func TestKinds(t *testing.T) {
 		if got := kind(p); got != want {
 			t.Errorf("%.100q is %q, not %q", text, got, want)
 		}
-		if rewritten, _, length := p.Rewrite(text, tokens); rewritten != text || length != 0 {
+		if rewritten, inserted := p.Rewrite(text, tokens); rewritten != text || inserted != nil {
 			t.Errorf("%.100q became %.100q", text, rewritten)
 		}
 	}
@@ -193,11 +193,16 @@ func TestComment(t *testing.T) {
 
 func TestMoveBack(t *testing.T) {
 	const rewritten = "SELECT ü, \"ü\".x FROM t WHERE ü"
-	at := strings.Index(rewritten, `"ü"`)
-	length := len(`"ü".x `)
+	inserted := []Inserted{{strings.Index(rewritten, `"ü"`), len(`"ü".x `)}}
 	for position, want := range map[int]int{1: 1, 10: 10, 11: 11, 15: 11, 16: 11, 17: 11, 18: 12, 32: 26} {
-		if got := MoveBack(rewritten, at, length, position); got != want {
+		if got := MoveBack(rewritten, inserted, position); got != want {
 			t.Errorf("position %d becomes %d, not %d", position, got, want)
+		}
+	}
+	inserted = append(inserted, Inserted{strings.Index(rewritten, " WHERE"), len(" WHERE")}) // and another one
+	for position, want := range map[int]int{1: 1, 10: 10, 11: 11, 17: 11, 18: 12, 22: 16, 23: 17, 28: 17, 29: 17, 30: 18, 31: 19} {
+		if got := MoveBack(rewritten, inserted, position); got != want {
+			t.Errorf("position %d becomes %d, not %d, by two insertions", position, got, want)
 		}
 	}
 }

@@ -14,8 +14,8 @@ func TestListsWhoseLengthMatters(t *testing.T) {
 	} {
 		for i := 0; i < 2; i++ {
 			p, tokens := cache.Plan(text)
-			rewritten, _, length := p.Rewrite(text, tokens)
-			if p.Unknown || length == 0 {
+			rewritten, inserted := p.Rewrite(text, tokens)
+			if p.Unknown || inserted == nil {
 				t.Errorf("%s: %s, unseen %v", text, rewritten, p.Unseen)
 				continue
 			}

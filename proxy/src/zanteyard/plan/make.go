@@ -21,6 +21,7 @@ type maker struct {
 	configs []int // the tokens of the names that set_config sets, nowhere for one that is no constant
 	renames bool  // something else may change what names mean
 	cursor  bool  // the statement declares one
+	passed  int   // how many hidden columns subqueries pass on
 	// prepared: it is SQL's PREPARE. EXECUTE runs a statement before the server describes its result, so definitions may have
 	// changed in between.
 	prepared bool
@@ -111,7 +112,7 @@ func (c *Cache) make(state *cached, s *scanner) *Plan {
 		m.customs(p)
 	}
 	p.stamp(state.generation)
-	p.Beyond = m.beyond() || !isASCII(p.insertion.text)
+	p.Beyond = m.beyond() || !isASCII(p.added())
 	return p
 }
 

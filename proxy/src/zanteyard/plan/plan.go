@@ -1,5 +1,5 @@
 // Package plan determines what the proxy does with a statement: which hidden columns it adds, and what it can't see. A
-// plan inserts text before one token of a statement and leaves every other byte unchanged. It depends on the
+// plan inserts text next to some tokens of a statement and leaves every other byte unchanged. It depends on the
 // statement's text without constants and comments, and on the catalog; it isn't used on a connection before it has been
 // tried there (Trial).
 //
@@ -166,19 +166,31 @@ type Plan struct {
 	// has them.
 	Parts []*Plan
 
-	insertion insertion
-	asked     []askedPart
-	follow    *follow
-	positions []position
-	misplaced *Plan // the same without an insertion, for texts whose positions forbid it
-	custom    *Plan // the same for texts in which set_config sets nothing but settings that names don't depend on
-	configs   []int // the tokens of their names
-	apart     bool  // its text's lists mustn't be collapsed: another key has its plan
-	sample    string
-	rests     *atomic.Int64 // until when it isn't used, in nanoseconds; nil if it never rests
-	relations []relation
-	target    uint32       // the relation whose row's version TellsVersion has
-	ranges    []tokenRange // of Parts
+	insertions []insertion // in the text's order
+	asked      []askedPart
+	follow     *follow
+	positions  []position
+	misplaced  *Plan // the same without an insertion, for texts whose positions forbid it
+	custom     *Plan // the same for texts in which set_config sets nothing but settings that names don't depend on
+	configs    []int // the tokens of their names
+	apart      bool  // its text's lists mustn't be collapsed: another key has its plan
+	sample     string
+	rests      *atomic.Int64 // until when it isn't used, in nanoseconds; nil if it never rests
+	relations  []relation
+	target     uint32       // the relation whose row's version TellsVersion has
+	ranges     []tokenRange // of Parts
+}
+
+// adds reports whether the plan adds hidden columns to a statement's text.
+func (p *Plan) adds() bool { return len(p.insertions) > 0 }
+
+// added returns all that it adds.
+func (p *Plan) added() string {
+	all := ""
+	for _, one := range p.insertions {
+		all += one.text
+	}
+	return all
 }
 
 type tokenRange struct{ from, to int }

@@ -34,11 +34,11 @@ func TestShapes(t *testing.T) {
 				t.Errorf("flags %q, not %q", got, want)
 			}
 			if other, _ := certain.Plan(s.sql); p.Counts || p.Looks {
-				if is := other.Counts || other.Looks; is == (p.Ordered || s.optional) || is && other.insertion != p.insertion {
-					t.Errorf("without lists where order shows it has %q, not %q", other.insertion.text, p.insertion.text)
+				if is := other.Counts || other.Looks; is == (p.Ordered || s.optional) || is && other.added() != p.added() {
+					t.Errorf("without lists where order shows it has %q, not %q", other.added(), p.added())
 				}
 			}
-			if p.insertion.text == "" {
+			if !p.adds() {
 				return
 			}
 			untouched(t, s.sql, p, tokens)
@@ -94,12 +94,16 @@ func flags(p *Plan) string {
 	return strings.Join(all, ", ")
 }
 
-// untouched checks that only the insertion changes the text.
+// untouched checks that only the insertions change the text.
 func untouched(t *testing.T, text string, p *Plan, tokens Tokens) {
 	t.Helper()
-	rewritten, at, length := p.Rewrite(text, tokens)
-	if length == 0 || rewritten[:at]+rewritten[at+length:] != text {
-		t.Errorf("%q became %q, at %d, length %d", text, rewritten, at, length)
+	rewritten, inserted := p.Rewrite(text, tokens)
+	rest := rewritten
+	for i := len(inserted) - 1; i >= 0; i-- {
+		rest = rest[:inserted[i].At] + rest[inserted[i].At+inserted[i].Length:]
+	}
+	if len(inserted) == 0 || rest != text {
+		t.Errorf("%q became %q: %v", text, rewritten, inserted)
 	}
 }
 
@@ -172,7 +176,7 @@ func ask(connection *pgconn.PgConn, sql string, format int16) answer {
 func compare(t *testing.T, connection *pgconn.PgConn, known *catalog.Catalog, sql string, p *Plan, tokens Tokens,
 	format int16, inOrder bool) bool {
 	t.Helper()
-	rewritten, at, length := p.Rewrite(sql, tokens)
+	rewritten, inserted := p.Rewrite(sql, tokens)
 	begin := "BEGIN ISOLATION LEVEL REPEATABLE READ; SELECT setseed(0.5), pg_catalog.setval(oid, 1000) FROM pg_class " +
 		"WHERE relkind = 'S'"
 	run(t, connection, begin)
@@ -189,7 +193,7 @@ func compare(t *testing.T, connection *pgconn.PgConn, known *catalog.Catalog, sq
 	if results := run(t, connection, end); hidden.err == "" {
 		number = string(results[0].Rows[0][0])
 	}
-	if plain.err != hidden.err || plain.at != MoveBack(rewritten, at, length, hidden.at) {
+	if plain.err != hidden.err || plain.at != MoveBack(rewritten, inserted, hidden.at) {
 		t.Fatalf("%q fails with %q at %d, %q with %q at %d", sql, plain.err, plain.at, rewritten, hidden.err, hidden.at)
 	}
 	if plain.err != "" {

@@ -1,6 +1,7 @@
 package plan
 
 import (
+	"sort"
 	"strings"
 	"sync/atomic"
 )
@@ -65,9 +66,10 @@ func kindFound(value any, wanted string) bool {
 
 // finish checks an insertion by parsing the result, and writes the sample that is tried on a connection.
 func (m *maker) finish(p *Plan, stmt statement, field string, start int) {
-	if p.insertion.text == "" {
+	if !p.adds() {
 		return
 	}
+	sort.Slice(p.insertions, func(i, j int) bool { return p.insertions[i].token < p.insertions[j].token })
 	reason := ""
 	switch {
 	case m.mentions(alias):
@@ -95,21 +97,27 @@ const maxSample = 16 << 10
 func (m *maker) sample(p *Plan, stmt statement, start int) string {
 	first, last := int(m.tokens[start].start), int(m.tokens[stmt.to-1].last)
 	if last-first > maxSample {
-		from, to, at := m.offsets[start], m.offsets[stmt.to-1]+len(m.word(stmt.to-1)), m.place(p)
-		return m.joined[from:at] + p.insertion.text + m.joined[at:to]
+		from, to := m.offsets[start], m.offsets[stmt.to-1]+len(m.word(stmt.to-1))
+		text, _ := insert(m.joined[from:to], p.insertions, func(i int) int { return m.place(p.insertions[i]) - from })
+		return text
 	}
-	at := int(m.tokens[p.insertion.token].start)
-	if p.insertion.behind {
-		at = int(m.tokens[p.insertion.token].last)
-	}
-	return m.text[first:at] + p.insertion.text + m.text[at:last]
+	text, _ := insert(m.text[first:last], p.insertions, func(i int) int { return p.insertions[i].in(m.tokens) - first })
+	return text
 }
 
-// place returns where the insertion goes in the joined text.
-func (m *maker) place(p *Plan) int {
-	at := m.offsets[p.insertion.token]
-	if p.insertion.behind {
-		at += len(m.word(p.insertion.token))
+// in returns where an insertion goes in a text.
+func (one insertion) in(tokens []token) int {
+	if one.behind {
+		return int(tokens[one.token].last)
+	}
+	return int(tokens[one.token].start)
+}
+
+// place returns where an insertion goes in the joined text.
+func (m *maker) place(one insertion) int {
+	at := m.offsets[one.token]
+	if one.behind {
+		at += len(m.word(one.token))
 	}
 	return at
 }
@@ -126,9 +134,11 @@ func (p *Plan) without(reason string) *Plan {
 	return bare
 }
 
+// mentions reports whether a statement has a name that hidden columns have.
 func (m *maker) mentions(name string) bool {
 	for i, t := range m.tokens {
-		if (t.kind == wordToken || t.kind == quotedToken) && strings.EqualFold(strings.Trim(m.word(i), `"`), name) {
+		word := strings.ToLower(strings.Trim(m.word(i), `"`))
+		if (t.kind == wordToken || t.kind == quotedToken) && (word == name || strings.HasPrefix(word, name+" ")) {
 			return true
 		}
 	}
@@ -138,8 +148,8 @@ func (m *maker) mentions(name string) bool {
 // sound reports whether the rewritten text means the same as the text, except for the hidden columns after the others:
 // the parser decides.
 func (m *maker) sound(p *Plan, stmt statement, field string) bool {
-	at := m.place(p)
-	trees, err := parse(m.joined[:at] + p.insertion.text + m.joined[at:])
+	text, _ := insert(m.joined, p.insertions, func(i int) int { return m.place(p.insertions[i]) })
+	trees, err := parse(text)
 	if err != nil || len(trees) != 1 {
 		return false
 	}
@@ -148,21 +158,48 @@ func (m *maker) sound(p *Plan, stmt statement, field string) bool {
 	if body.has("query") { // DECLARE, PREPARE
 		_, body = only(body["query"])
 	}
-	list, hidden := body.list(field), p.Hidden()
-	if len(list) < hidden {
-		return false
+	hidden := 0
+	if field == "targetList" {
+		visit(rewritten, func(kind string, its node) bool {
+			if kind == "SelectStmt" {
+				hidden += its.cutAll(field)
+			}
+			return true
+		})
+	} else {
+		hidden = body.cut(field)
 	}
-	for _, item := range list[len(list)-hidden:] {
-		if kind, target := only(item); kind != "ResTarget" || target.text("name") != alias {
-			return false
+	return hidden == p.Hidden() && alike(stmt.tree, rewritten)
+}
+
+// cutAll is cut for a SELECT and all parts of a UNION.
+func (n node) cutAll(field string) (results int) {
+	results = n.cut(field)
+	for _, side := range []string{"larg", "rarg"} {
+		if n.has(side) {
+			results += n.node(side).cutAll(field)
 		}
 	}
-	if len(list) == hidden {
-		delete(body, field)
-	} else {
-		body[field] = list[:len(list)-hidden]
+	return results
+}
+
+// cut removes the hidden columns at the end of a list, and returns how many of them are those of the statement's result.
+func (n node) cut(field string) (results int) {
+	list := n.list(field)
+	for len(list) > 0 {
+		kind, target := only(list[len(list)-1])
+		name := target.text("name")
+		if kind != "ResTarget" || name != alias && !strings.HasPrefix(name, alias+" ") {
+			break
+		}
+		if list = list[:len(list)-1]; name == alias {
+			results++
+		}
 	}
-	return alike(stmt.tree, rewritten)
+	if n[field] = list; len(list) == 0 {
+		delete(n, field)
+	}
+	return results
 }
 
 func quote(name string) string { return `"` + strings.ReplaceAll(name, `"`, `""`) + `"` }

@@ -68,7 +68,7 @@ func TestRandomStatements(t *testing.T) {
 			text = w.query()
 		}
 		p, tokens := cache.Plan(text)
-		if p.insertion.text == "" {
+		if !p.adds() {
 			continue
 		}
 		changed++

@@ -146,6 +146,13 @@ func (f *fromClause) width(targets []any) int {
 					star = n
 				}
 			}
+			for _, d := range f.derived {
+				if d.carried && d.inner != nil {
+					if n := d.inner.width(d.query.list("targetList")); n > star {
+						star = n
+					}
+				}
+			}
 		}
 		columns += star
 	}

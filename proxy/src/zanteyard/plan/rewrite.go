@@ -12,7 +12,8 @@ type span struct{ from, to int32 }
 // Tokens are a plan's places in one text: where text is inserted, and where the constants are by which a key is asked
 // for.
 type Tokens struct {
-	at        int // nowhere if nothing is inserted
+	at        int   // of the first insertion; nowhere if nothing is inserted
+	further   []int // of the others
 	constants [maxAsked + 1]span
 	follow    []span
 	left      int // how many parameters lists were left without
@@ -30,30 +31,58 @@ type Part struct {
 // Parts returns the statements of a text, if its plan is Several.
 func (t Tokens) Parts() []Part { return t.parts }
 
-// Rewrite returns the text with the plan's hidden columns, and what was inserted: length bytes before what was byte
-// `at`. If nothing is inserted, length is 0.
-func (p *Plan) Rewrite(text string, tokens Tokens) (rewritten string, at, length int) {
+// Inserted is what was inserted into a text: so many bytes, at a byte of the rewritten text.
+type Inserted struct{ At, Length int }
+
+// Rewrite returns the text with the plan's hidden columns, and what was inserted, in order.
+func (p *Plan) Rewrite(text string, tokens Tokens) (rewritten string, inserted []Inserted) {
 	if tokens.at == nowhere {
-		return text, 0, 0
+		return text, nil
 	}
-	return text[:tokens.at] + p.insertion.text + text[tokens.at:], tokens.at, len(p.insertion.text)
+	return insert(text, p.insertions, func(i int) int {
+		if i == 0 {
+			return tokens.at
+		}
+		return tokens.further[i-1]
+	})
+}
+
+// insert returns a text with each insertion at its place, which is a byte of the text.
+func insert(text string, all []insertion, place func(i int) int) (string, []Inserted) {
+	size := len(text)
+	for i := range all {
+		size += len(all[i].text)
+	}
+	var out strings.Builder
+	out.Grow(size)
+	inserted, last := make([]Inserted, len(all)), 0
+	for i := range all {
+		at := place(i)
+		out.WriteString(text[last:at])
+		inserted[i] = Inserted{out.Len(), len(all[i].text)}
+		out.WriteString(all[i].text)
+		last = at
+	}
+	out.WriteString(text[last:])
+	return out.String(), inserted
 }
 
 // MoveBack converts a position in a rewritten text, as an error reports it (in characters, from 1), to the position in
-// the text that the client sent. A position inside the insertion becomes that of what follows it.
-func MoveBack(rewritten string, at, length, position int) int {
-	if length == 0 {
-		return position
+// the text that the client sent. A position inside an insertion becomes that of what follows it.
+func MoveBack(rewritten string, inserted []Inserted, position int) int {
+	moved := position
+	for _, its := range inserted {
+		before := utf8.RuneCountInString(rewritten[:its.At])
+		length := utf8.RuneCountInString(rewritten[its.At : its.At+its.Length])
+		switch {
+		case position <= before:
+			return moved
+		case position <= before+length:
+			return moved - (position - before) + 1
+		}
+		moved -= length
 	}
-	before := utf8.RuneCountInString(rewritten[:at])
-	inserted := utf8.RuneCountInString(rewritten[at : at+length])
-	switch {
-	case position <= before:
-		return position
-	case position <= before+inserted:
-		return before + 1
-	}
-	return position - inserted
+	return moved
 }
 
 // Trial is what has to succeed on a connection before a plan is used there. Parse resolves names and types, but doesn't
@@ -70,12 +99,15 @@ type Trial struct {
 
 // Trial returns how the plan is tried. A plan that inserts nothing needs no trial: both fields are empty.
 func (p *Plan) Trial() Trial {
-	if p.insertion.text == "" {
+	if !p.adds() {
 		return Trial{}
 	}
 	its := Trial{Statements: []string{p.sample}, Privileges: privileges(p.relations, p.functions())}
 	if p.Compared() || p.Inner != nil && p.Inner.Compared() {
-		its.Plain = strings.Replace(p.sample, p.insertion.text, "", 1)
+		its.Plain = p.sample
+		for _, one := range p.insertions { // each has names that are nowhere else
+			its.Plain = strings.Replace(its.Plain, one.text, "", 1)
+		}
 	}
 	return its
 }

@@ -42,8 +42,9 @@ func (m *maker) selects(p *Plan, body node, start, end int) {
 		return
 	}
 	f.unsorted = lists && body.has("groupClause") && !m.sortsGroups(body, f)
+	f.open(body, !lists)
 	found := f.groups()
-	if len(found) == 0 {
+	if len(found) == 0 && !f.opens() {
 		return
 	}
 	if word < 0 {
@@ -58,6 +59,29 @@ func (m *maker) selects(p *Plan, body node, start, end int) {
 	if p.Counts {
 		h.value(countOfRows + h.over)
 	}
+	f.result(h, body, found, word)
+	p.Widens = widens(body, f) || f.opens() && f.size() <= mostJoined
+	p.Ordered = (p.Counts || p.Looks) && f.ordered
+	m.orders(p, body, f.width(body.list("targetList")))
+	m.asks(p, body, found, f)
+}
+
+// result adds the hidden columns to what a query returns, before its FROM.
+func (f *fromClause) result(h *hiding, body node, found []*item, word int) {
+	p := f.plan
+	for _, d := range f.derived {
+		if d.inner == nil {
+			continue
+		}
+		if d.carried {
+			d.inner.result(&hiding{sole: d.inner.items == 1}, d.query, d.inner.found, d.inner.word)
+		} else {
+			found = append(found[:len(found):len(found)], d.passes()...)
+		}
+	}
+	if len(found) == 0 {
+		return
+	}
 	for _, source := range found {
 		if source.listed {
 			h.lists(source)
@@ -67,14 +91,15 @@ func (m *maker) selects(p *Plan, body node, start, end int) {
 		p.Sources = append(p.Sources, source.source())
 		p.relations = append(p.relations, source.relation())
 	}
-	groups := h.text()
+	f.inserts(body, h.text(), word)
+}
+
+// inserts adds columns to a query's own.
+func (f *fromClause) inserts(body node, columns string, word int) {
 	if body.has("targetList") {
-		groups = ", " + groups
+		columns = ", " + columns
 	}
-	p.insertion, p.Widens = insertion{text: groups + " ", token: word}, widens(body, f)
-	p.Ordered = (p.Counts || p.Looks) && f.ordered
-	m.orders(p, body, f.width(body.list("targetList")))
-	m.asks(p, body, found, f)
+	f.plan.insertions = append(f.plan.insertions, insertion{text: columns + " ", token: word})
 }
 
 // anAggregate is why the rows aren't listed that an aggregate was made of, if the result may depend on how they are read.
@@ -250,8 +275,12 @@ func (m *maker) fromWord(start, end int) int {
 	if first == end {
 		return nowhere
 	}
-	depth := m.depths[first]
-	for i := first + 1; i < end && m.depths[i] >= depth; i++ {
+	return m.fromAfter(first+1, end, m.depths[first])
+}
+
+// fromAfter finds the word FROM of a query from a token on, outside of its parentheses.
+func (m *maker) fromAfter(start, end, depth int) int {
+	for i := start; i < end && m.depths[i] >= depth; i++ {
 		if m.depths[i] != depth || !m.is(i, "from") {
 			continue
 		}
@@ -295,7 +324,7 @@ func withNames(body node) map[string]bool {
 // asks records the whole key of the one row that a SELECT asks for, if it asks for nothing else: if no row comes back,
 // there is none.
 func (m *maker) asks(p *Plan, body node, found []*item, f *fromClause) {
-	if len(found) != 1 || f.items != 1 || found[0].only || found[0].sampled || found[0].table.RowSecurity {
+	if len(found) != 1 || f.items != 1 || len(f.derived) > 0 || found[0].only || found[0].sampled || found[0].table.RowSecurity {
 		return
 	}
 	if found[0].table.Root != found[0].table.OID { // the row may be in another partition

@@ -314,12 +314,14 @@ func TestAddedTexts(t *testing.T) {
 			} {
 				for _, path := range []string{"", Converting} {
 					p, tokens := cache.PlanIn(path, text)
-					rewritten, at, length := p.Rewrite(text, tokens)
-					if length == 0 {
+					rewritten, inserted := p.Rewrite(text, tokens)
+					if inserted == nil {
 						continue
 					}
 					all++
-					check(t, text, "SELECT x"+separated(rewritten[at:at+length]))
+					for _, its := range inserted {
+						check(t, text, "SELECT x"+separated(rewritten[its.At:its.At+its.Length]))
+					}
 					check(t, text, p.Trial().Privileges)
 				}
 			}

@@ -19,7 +19,7 @@ var calledNames = regexp.MustCompile(`pg_catalog\.([a-z0-9_]+)\(`)
 // any of these from others.
 func (p *Plan) functions() (all []string) {
 	all = append(all, "pg_current_xact_id_if_assigned") // of the proxy's own questions, too
-	for _, call := range calledNames.FindAllStringSubmatch(p.insertion.text, -1) {
+	for _, call := range calledNames.FindAllStringSubmatch(p.added(), -1) {
 		if !contains(all, call[1]) {
 			all = append(all, call[1])
 		}

@@ -67,10 +67,10 @@ func TestPartsOfSeveral(t *testing.T) {
 		rewritten, shift := text, 0
 		for _, part := range tokens.Parts() {
 			own := text[part.From:part.To]
-			changed, _, length := part.Plan.Rewrite(own, part.Tokens)
+			changed, inserted := part.Plan.Rewrite(own, part.Tokens)
 			rewritten = rewritten[:part.From+shift] + changed + rewritten[part.To+shift:]
-			shift += length
-			if (length != 0) != (part.Plan.Kind == Select || part.Plan.Kind == Write) {
+			shift += len(changed) - len(own)
+			if (len(inserted) > 0) != (part.Plan.Kind == Select || part.Plan.Kind == Write) {
 				t.Errorf("%q became %q", own, changed)
 			}
 		}
@@ -101,7 +101,7 @@ func TestCursorsAndPrepared(t *testing.T) {
 		}
 		untouched(t, c.text, p, tokens)
 		tried(t, connection, p, true)
-		rewritten, _, _ := p.Rewrite(c.text, tokens)
+		rewritten, _ := p.Rewrite(c.text, tokens)
 		run(t, connection, c.before)
 		versions := stored(t, connection, known, p.Inner)
 		run(t, connection, rewritten)
@@ -115,7 +115,7 @@ func TestCursorsAndPrepared(t *testing.T) {
 		}
 	}
 	p, tokens := cache.Plan("DECLARE c CURSOR FOR SELECT v FROM t ORDER BY 2")
-	if _, _, length := p.Rewrite("DECLARE c CURSOR FOR SELECT v FROM t ORDER BY 2", tokens); length != 0 || p.Kind != Declare ||
+	if _, inserted := p.Rewrite("DECLARE c CURSOR FOR SELECT v FROM t ORDER BY 2", tokens); inserted != nil || p.Kind != Declare ||
 		p.Inner.Hidden() != 0 {
 		t.Errorf("a place that isn't there: %+v", p)
 	}
@@ -214,7 +214,7 @@ func TestLockedRow(t *testing.T) {
 		"DELETE FROM t WHERE id = 1",
 	} {
 		p, tokens := cache.Plan(text)
-		rewritten, _, _ := p.Rewrite(text, tokens)
+		rewritten, _ := p.Rewrite(text, tokens)
 		run(t, other, "BEGIN; UPDATE t SET v = v + 1 WHERE id = 1")
 		want := string(run(t, other, "SELECT xmin::text FROM t WHERE id = 1")[0].Rows[0][0])
 		blocked := make(chan answer, 1)
@@ -251,7 +251,7 @@ func TestPreparedOutlivesNewType(t *testing.T) {
 	cache := NewCache(load(t, connection))
 	const text = "SELECT v FROM t WHERE id = $1"
 	p, tokens := cache.Plan(text)
-	rewritten, _, _ := p.Rewrite(text, tokens)
+	rewritten, _ := p.Rewrite(text, tokens)
 	if _, err := connection.Prepare(ctx(), "p", rewritten, nil); err != nil {
 		t.Fatal(err)
 	}

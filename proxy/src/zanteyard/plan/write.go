@@ -52,6 +52,7 @@ func (m *maker) changes(p *Plan, body node, end int, others string) {
 	}
 	f := &fromClause{maker: m, plan: p, with: withNames(body), taken: target.name}
 	f.read(body, others)
+	f.open(body, false)
 	m.returns(p, body, target, others == "fromClause" && !target.table.Partitioned(), f.groups(), f.items == 0, end)
 }
 
@@ -116,7 +117,7 @@ func (m *maker) returns(p *Plan, body node, target *item, version bool, found []
 		p.Sources = append(p.Sources, it.source())
 		p.relations = append(p.relations, it.relation())
 	}
-	p.insertion = insertion{text: begin + h.text(), token: end - 1, behind: true}
+	p.insertions = []insertion{{text: begin + h.text(), token: end - 1, behind: true}}
 }
 
 // deletes distinguishes DELETE from the others: it has no list of columns, values or rows.

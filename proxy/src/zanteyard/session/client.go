@@ -152,7 +152,7 @@ func (s *Session) query(o *output, m []byte, start, end int) {
 			o.pass(start, end)
 		}
 	} else if s.before(st.plan); s.usable(st) {
-		rewritten, _, _ := st.plan.Rewrite(st.text, st.tokens)
+		rewritten, _ := st.plan.Rewrite(st.text, st.tokens)
 		st.altered, e.changed = true, true
 		to := o.own()
 		begin := len(to)
@@ -211,7 +211,7 @@ func (s *Session) parse(o *output, m []byte, start, end int) {
 	if st.name == "" {
 		e.cleared = true
 		if s.usable(st) {
-			rewritten, _, _ := st.plan.Rewrite(st.text, st.tokens)
+			rewritten, _ := st.plan.Rewrite(st.text, st.tokens)
 			st.altered, e.changed = true, true
 			o.buf = appendParse(o.own(), "", rewritten, types)
 		} else {
@@ -384,7 +384,7 @@ func (s *Session) twin(o *output, st *statement) string {
 	s.names.twins++
 	st.twin, st.twinOf, st.twinIn = twinName(s.names.twins), st.plan, s.trust.era
 	st.twinMade, st.twinPart = false, s.queue.parts
-	text, _, _ := st.plan.Rewrite(st.text, st.tokens)
+	text, _ := st.plan.Rewrite(st.text, st.tokens)
 	types := st.types
 	if st.parameters != nil {
 		types = st.parameters

@@ -45,7 +45,7 @@ func (s *Session) executes(o *output, st *statement, e *expectation) bool {
 
 // prepares sends the rewritten PREPARE under one of the proxy's own names.
 func (s *Session) prepares(o *output, of *statement) bool {
-	rewritten, _, _ := of.plan.Rewrite(of.text, of.tokens)
+	rewritten, _ := of.plan.Rewrite(of.text, of.tokens)
 	from, to, ok := nameIn(rewritten, "prepare")
 	if !ok {
 		return false

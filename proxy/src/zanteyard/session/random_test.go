@@ -212,6 +212,10 @@ func shapes() []shape {
 		}},
 		{"SELECT DISTINCT one.id, one.tag, two.a, two.b, two.tag FROM one LEFT JOIN two ON two.a = one.id AND two.b > 'b2' " +
 			"WHERE one.n >= $1 ORDER BY one.id, one.tag, two.a, two.b, two.tag", key, both},
+		{"SELECT s.id, s.tag FROM (SELECT id, n, tag FROM one WHERE n <> $1) AS s ORDER BY s.id", key, one},
+		{"SELECT * FROM (SELECT a, b, tag FROM two WHERE a = $1) s", key, two},
+		{"SELECT s.id, s.tag, q.a, q.b, q.tag FROM (SELECT * FROM one ORDER BY id LIMIT 4) s " +
+			"LEFT JOIN (SELECT r.* FROM (SELECT b, tag, a FROM two) r WHERE r.b > 'b2') q ON q.a = s.id WHERE s.n >= $1", key, both},
 		{"UPDATE one SET tag = $1 WHERE id = $2", tagKey, none},
 		{"UPDATE one SET tag = $1, n = n + 1 WHERE id = $2 RETURNING n", tagKey, none},
 		{"UPDATE two SET tag = $1 WHERE a = $2", tagKey, none},

@@ -10,13 +10,13 @@ import (
 
 // piece is one of several statements in one Query.
 type piece struct {
-	text       string // with the comments around it
-	plan       *plan.Plan
-	use        *use
-	changed    bool
-	at, length int // of the insertion, in the rewritten text of all
-	asking     *asking
-	era        uint64
+	text     string // with the comments around it
+	plan     *plan.Plan
+	use      *use
+	changed  bool
+	inserted []plan.Inserted // in the rewritten text of all
+	asking   *asking
+	era      uint64
 }
 
 // pieces rewrites those of several statements that may be rewritten. Whatever one of them may change isn't relied on
@@ -37,8 +37,11 @@ func (s *Session) pieces(st *statement) (string, []piece) {
 		it := piece{text: strings.Trim(st.text[begins:behind], "; \t\r\n"), plan: p, use: one.use}
 		to = append(to, st.text[last:part.From]...)
 		if s.usable(one) {
-			rewritten, at, length := p.Rewrite(one.text, part.Tokens)
-			it.changed, it.at, it.length = true, len(to)+at, length
+			rewritten, inserted := p.Rewrite(one.text, part.Tokens)
+			for i := range inserted {
+				inserted[i].At += len(to)
+			}
+			it.changed, it.inserted = true, inserted
 			it.asking = s.asksBy(one, condition.Arguments{})
 			to = append(to, rewritten...)
 		} else {
@@ -103,15 +106,11 @@ func (e *expectation) altered() bool {
 func (e *expectation) moved() func(position int) int {
 	st := e.on
 	if len(e.pieces) > 0 {
-		return func(position int) int {
-			text := st.rewritten
-			for i := len(e.pieces) - 1; i >= 0; i-- { // the insertions before this one are still there
-				it := e.pieces[i]
-				position = plan.MoveBack(text, it.at, it.length, position)
-				text = text[:it.at] + text[it.at+it.length:]
-			}
-			return position
+		var inserted []plan.Inserted
+		for _, it := range e.pieces {
+			inserted = append(inserted, it.inserted...)
 		}
+		return func(position int) int { return plan.MoveBack(st.rewritten, inserted, position) }
 	}
 	if at, more := st.renamedAt, st.renamed; st.plan.Kind == plan.Execute {
 		return func(position int) int {
@@ -124,6 +123,6 @@ func (e *expectation) moved() func(position int) int {
 			return position
 		}
 	}
-	text, at, length := st.plan.Rewrite(st.text, st.tokens)
-	return func(position int) int { return plan.MoveBack(text, at, length, position) }
+	text, inserted := st.plan.Rewrite(st.text, st.tokens)
+	return func(position int) int { return plan.MoveBack(text, inserted, position) }
 }

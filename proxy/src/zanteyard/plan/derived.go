@@ -1,0 +1,301 @@
+package plan
+
+import "strconv"
+
+// A subquery in FROM returns rows of tables, as the statement itself does. Its hidden columns go in two places: it gets them
+// under names of their own, and the statement around it selects these. Where that ends in a star for the subquery's columns,
+// the star has them already.
+
+// derived is a subquery in FROM.
+type derived struct {
+	query node
+	alias node
+	at    place
+	place int // among the items of FROM, from 1
+	// inner is its own FROM clause, nil if its rows aren't seen. found are its tables.
+	inner *fromClause
+	// carried means that a star, which is the last column of the query around it, has its columns at the end.
+	carried bool
+}
+
+// aSubqueryInFrom is why rows aren't seen that a subquery in FROM reads.
+const aSubqueryInFrom = "a subquery in FROM"
+
+// open decides which of the subqueries in FROM are seen.
+func (f *fromClause) open(body node, rows bool) {
+	for _, d := range f.derived {
+		if !rows || len(f.group) > 0 || f.maker.prepared || !f.plain(d) || !f.reaches(d, body) {
+			f.plan.leaveOut(aSubqueryInFrom)
+			continue
+		}
+		f.enter(d)
+	}
+}
+
+// opens reports whether any of them is.
+func (f *fromClause) opens() bool {
+	for _, d := range f.derived {
+		if d.inner != nil {
+			return true
+		}
+	}
+	return false
+}
+
+// size returns how many items FROM has, with those of subqueries that are seen.
+func (f *fromClause) size() int {
+	size := f.items
+	for _, d := range f.derived {
+		if d.inner != nil {
+			size += d.inner.size()
+		}
+	}
+	return size
+}
+
+// plain reports whether each row that a subquery returns is made of one row of each of its tables.
+func (f *fromClause) plain(d *derived) bool {
+	for name := range d.query {
+		switch name {
+		case "targetList", "fromClause", "whereClause", "sortClause", "limitCount", "limitOffset", "limitOption", "lockingClause",
+			"windowClause", "distinctClause", "op":
+		default:
+			return false
+		}
+	}
+	lists, reason := f.maker.merges(d.query)
+	return !lists && reason == "" && len(d.query.list("targetList")) > 0 && d.query.has("fromClause")
+}
+
+// reaches reports whether the statement around a subquery names its columns one by one: more of them change nothing then. A
+// star for them, or a name for a whole row of them, would have the hidden ones, too, unless the star comes last.
+func (f *fromClause) reaches(d *derived, body node) bool {
+	name := d.alias.text("aliasname")
+	if name == "" || d.alias.has("colnames") || d.at.natural {
+		return false
+	}
+	outputs, known := f.maker.outputs(d.query)
+	if !known {
+		return false
+	}
+	used, stars := false, 0
+	for _, ref := range f.refs {
+		fields := ref.fields
+		if len(fields) == 0 {
+			continue
+		}
+		last := fields[len(fields)-1]
+		of := len(fields) > 1 && fields[len(fields)-2] == name
+		switch {
+		case len(fields) > 1 && !of:
+			continue
+		case last == "*":
+			stars++
+		case of && !outputs[last], !of && last == name:
+			return false // a whole row, or a function of it
+		case !of && !outputs[last]:
+			continue
+		}
+		used = used || ref.join != d.at.optional
+	}
+	if stars > 0 {
+		if stars > 1 || !f.endsWith(d, body) {
+			return false
+		}
+		d.carried = true
+	}
+	return used || d.at.optional == 0 // else the server may skip it
+}
+
+// endsWith reports whether the last column of a query is a star whose last columns are those of a subquery.
+func (f *fromClause) endsWith(d *derived, body node) bool {
+	targets := body.list("targetList")
+	if len(targets) == 0 {
+		return false
+	}
+	_, last := only(targets[len(targets)-1])
+	fields := names(last.as("val", "ColumnRef").list("fields"))
+	switch len(fields) {
+	case 1:
+		return fields[0] == "*" && d.place == f.items
+	case 2:
+		return fields[0] == d.alias.text("aliasname") && fields[1] == "*"
+	}
+	return false
+}
+
+// outputs returns the names of a query's columns; known is false if they may have others.
+func (m *maker) outputs(query node) (all map[string]bool, known bool) {
+	all = map[string]bool{}
+	if query.has("valuesLists") {
+		return nil, false
+	}
+	for query.has("larg") { // a UNION has the names of its first part
+		query = query.node("larg")
+	}
+	for _, target := range query.list("targetList") {
+		_, its := only(target)
+		fields := names(its.as("val", "ColumnRef").list("fields"))
+		if len(fields) > 0 && fields[len(fields)-1] == "*" {
+			if !m.starred(all, query, fields[:len(fields)-1]) {
+				return nil, false
+			}
+			continue
+		}
+		// A name that isn't certain isn't one by which the statement may know it.
+		if name, sure := outputName(target); sure {
+			all[name] = true
+		}
+	}
+	return all, true
+}
+
+// starred adds the names of the columns that a star stands for, if these are columns of tables.
+func (m *maker) starred(to map[string]bool, query node, of []string) bool {
+	known := true
+	visit(query["fromClause"], func(kind string, body node) bool {
+		switch kind {
+		case "RangeVar":
+			name := body.node("alias").text("aliasname")
+			if name == "" {
+				name = body.text("relname")
+			}
+			if len(of) > 0 && of[len(of)-1] != name {
+				break
+			}
+			t, ok := m.catalog.Find(body.text("schemaname"), body.text("relname"))
+			if !ok || body.node("alias").has("colnames") {
+				known = false
+				break
+			}
+			for _, column := range t.Columns {
+				to[column.Name] = true
+			}
+		case "RangeSubselect":
+			alias := body.node("alias")
+			if len(of) > 0 && of[len(of)-1] != alias.text("aliasname") {
+				return false
+			}
+			its, ok := m.outputs(body.node("subquery").node("SelectStmt"))
+			known = known && ok && !alias.has("colnames")
+			for name := range its {
+				to[name] = true
+			}
+			return false
+		case "JoinExpr":
+			known = known && !body.node("alias").has("colnames")
+		case "RangeFunction", "RangeTableFunc":
+			known = false
+		}
+		return kind != "SubLink" && known
+	})
+	return known
+}
+
+// enter reads a subquery's own FROM clause.
+func (f *fromClause) enter(d *derived) {
+	m := f.maker
+	inner := &fromClause{maker: m, plan: f.plan, with: f.with, ordered: true, unlisted: !m.catalog.ListsAll(), word: nowhere}
+	inner.readPart(d.query, func(target string) bool { return f.uses(d, target) })
+	_, first := only(d.query.list("targetList")[0])
+	if at := m.tokenAt(first.number("location")); at >= 0 {
+		inner.word = m.fromAfter(at, len(m.tokens), m.depths[at])
+	}
+	if inner.word < 0 {
+		f.plan.leaveOut("unknown form of statement")
+		return
+	}
+	inner.locks = inner.locks || f.locks
+	inner.open(d.query, true)
+	inner.found = inner.groups()
+	if len(inner.found) == 0 && !inner.opens() {
+		return
+	}
+	inner.isNullable(d.at.nullable)
+	m.orders(f.plan, d.query, inner.width(d.query.list("targetList")))
+	d.inner = inner
+}
+
+// isNullable tells what a subquery reads that an outer join may leave NULL.
+func (f *fromClause) isNullable(is bool) {
+	for _, it := range f.found {
+		it.nullable = it.nullable || is
+	}
+	for _, d := range f.derived {
+		if d.inner != nil {
+			d.inner.isNullable(is)
+		}
+	}
+}
+
+// uses reports whether a query mentions a column of a subquery.
+func (f *fromClause) uses(d *derived, column string) bool {
+	for _, ref := range f.refs {
+		last := len(ref.fields) - 1
+		if last >= 0 && (ref.fields[last] == column || ref.fields[last] == "*") &&
+			(last == 0 || ref.fields[last-1] == d.alias.text("aliasname")) {
+			return true
+		}
+	}
+	return false
+}
+
+// readPart is read for a subquery, of whose columns the statement around it may not use all: what it doesn't use isn't read.
+func (f *fromClause) readPart(query node, uses func(column string) bool) {
+	rest := node{}
+	for name, value := range query {
+		rest[name] = value
+	}
+	if !query.has("sortClause") && !query.has("distinctClause") { // these may name a column by its position
+		var used []any
+		for _, target := range query.list("targetList") {
+			if name, sure := outputName(target); !sure || uses(name) {
+				used = append(used, target)
+			}
+		}
+		rest["targetList"] = used
+	}
+	f.read(rest, "fromClause")
+}
+
+// passes adds a subquery's hidden columns to its own, and returns its tables as the query around it knows them.
+func (d *derived) passes() (outside []*item) {
+	f, h, columns := d.inner, &hiding{sole: d.inner.items == 1}, ""
+	its := f.found
+	for _, below := range f.derived {
+		if below.inner != nil && !below.carried {
+			its = append(its[:len(its):len(its)], below.passes()...)
+		} else if below.inner != nil { // the star has them, under the same names
+			for _, it := range below.passes() {
+				outside = append(outside, it.outside(d, it.passed, it.named))
+			}
+		}
+	}
+	for _, it := range its {
+		passed := map[string]string{}
+		own := []string{"xmin", "tableoid"}
+		for _, column := range it.table.Key {
+			own = append(own, quote(column.Name))
+		}
+		for _, column := range own {
+			f.maker.passed++
+			passed[column] = quote(alias + " " + strconv.Itoa(f.maker.passed))
+			if columns != "" {
+				columns += ", "
+			}
+			columns += h.of(it, column) + " AS " + passed[column]
+		}
+		outside = append(outside, it.outside(d, passed, it.named || it.passed == nil && !h.sole))
+	}
+	if columns != "" {
+		f.inserts(d.query, columns, f.word)
+	}
+	return outside
+}
+
+// outside returns a subquery's table as the query around it knows it.
+func (it *item) outside(d *derived, passed map[string]string, named bool) *item {
+	its := *it
+	its.name, its.passed, its.named = d.alias.text("aliasname"), passed, named
+	return &its
+}

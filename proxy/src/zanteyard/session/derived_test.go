@@ -1,0 +1,27 @@
+package session
+
+import (
+	"testing"
+
+	"zanteyard/catalog"
+	"zanteyard/plan"
+)
+
+// TestDerived runs subqueries in FROM: what is answered is the same, and what was read is told, or why it isn't.
+func TestDerived(t *testing.T) {
+	needServer(t)
+	sql(t, fill)
+	sql(t, listing)
+	sql(t, "VACUUM ANALYZE listed")
+	listedAs(t, knowing(t, catalog.OnlyCertainLists), []listedCase{
+		{"SELECT s.x FROM (SELECT id, x FROM listed WHERE g = 5) s", 10, ""},
+		{"SELECT * FROM (SELECT id, x FROM listed WHERE g = 5 ORDER BY id LIMIT 3) s", 3, ""},
+		{"SELECT s.x FROM (SELECT id, x FROM listed WHERE g = 5 ORDER BY id LIMIT 3) s WHERE s.id > 50", 2, ""},
+		{"SELECT x, n FROM (SELECT x, row_number() OVER (ORDER BY id) AS n FROM listed WHERE g = 5) s WHERE n BETWEEN 2 AND 4", 3, ""},
+		{"SELECT t.v, s.x FROM t LEFT JOIN (SELECT id, x FROM listed WHERE id > 1) s ON s.id = t.id WHERE t.id < 4 ORDER BY t.id", 5, ""},
+		{"SELECT s.id, u.v FROM (SELECT t.id FROM t ORDER BY t.v LIMIT 2) AS s LEFT JOIN u ON u.a = s.id ORDER BY s.id, u.b", 8, ""},
+		{"SELECT t.v, l.x FROM t, LATERAL (SELECT x FROM listed WHERE listed.id = t.id LIMIT 1) l WHERE t.id < 3", 4, ""},
+		{"SELECT s.h FROM (SELECT h FROM listed WHERE h = 5) s", 0, plan.ByIndex},
+		{"SELECT count(*) FROM (SELECT x FROM listed WHERE g = 5) s", 0, "an aggregate"},
+	})
+}
