@@ -4,14 +4,15 @@ import "strconv"
 
 // A subquery in FROM returns rows of tables, as the statement itself does. Its hidden columns go in two places: it gets them
 // under names of their own, and the statement around it selects these. Where that ends in a star for the subquery's columns,
-// the star has them already.
+// the star has them already. A part of WITH is the same, with one place more for each statement that it is in.
 
-// derived is a subquery in FROM.
+// derived is a subquery in FROM, or a part of WITH that FROM names.
 type derived struct {
-	query node
-	alias node
-	at    place
-	place int // among the items of FROM, from 1
+	query  node
+	alias  node
+	at     place
+	place  int       // among the items of FROM, from 1
+	common *withPart // nil for a subquery
 	// inner is its own FROM clause, nil if its rows aren't seen. found are its tables.
 	inner *fromClause
 	// carried means that a star, which is the last column of the query around it, has its columns at the end.
@@ -24,11 +25,17 @@ const aSubqueryInFrom = "a subquery in FROM"
 // open decides which of the subqueries in FROM are seen.
 func (f *fromClause) open(body node, rows bool) {
 	for _, d := range f.derived {
-		if !rows || len(f.group) > 0 || f.maker.prepared || !f.plain(d) || !f.reaches(d, body) {
+		is := rows && len(f.group) == 0 && !f.maker.prepared && f.plain(d) && f.reaches(d, body)
+		switch {
+		case d.common != nil && is && !(d.carried && d.common.refs > 1):
+			d.common.opened++
+			f.enter(d)
+		case d.common != nil: // counted as WITH
+		case !is:
 			f.plan.leaveOut(aSubqueryInFrom)
-			continue
+		default:
+			f.enter(d)
 		}
-		f.enter(d)
 	}
 }
 
@@ -163,6 +170,14 @@ func (m *maker) starred(to map[string]bool, query node, of []string) bool {
 			if len(of) > 0 && of[len(of)-1] != name {
 				break
 			}
+			if c := m.commons[body.text("relname")]; c != nil && !body.has("schemaname") {
+				its, ok := m.outputs(c.query)
+				known = known && ok && !body.node("alias").has("colnames")
+				for name := range its {
+					to[name] = true
+				}
+				break
+			}
 			t, ok := m.catalog.Find(body.text("schemaname"), body.text("relname"))
 			if !ok || body.node("alias").has("colnames") {
 				known = false
@@ -195,8 +210,16 @@ func (m *maker) starred(to map[string]bool, query node, of []string) bool {
 // enter reads a subquery's own FROM clause.
 func (f *fromClause) enter(d *derived) {
 	m := f.maker
-	inner := &fromClause{maker: m, plan: f.plan, with: f.with, ordered: true, unlisted: !m.catalog.ListsAll(), word: nowhere}
-	inner.readPart(d.query, func(target string) bool { return f.uses(d, target) })
+	with, several := f.with, false
+	if c := d.common; c != nil {
+		if c.inner != nil {
+			d.inner = c.inner
+			return
+		}
+		with, several = c.before, c.refs > 1
+	}
+	inner := &fromClause{maker: m, plan: f.plan, with: with, ordered: true, unlisted: !m.catalog.ListsAll(), word: nowhere}
+	inner.readPart(d.query, func(target string) bool { return several || f.uses(d, target) })
 	_, first := only(d.query.list("targetList")[0])
 	if at := m.tokenAt(first.number("location")); at >= 0 {
 		inner.word = m.fromAfter(at, len(m.tokens), m.depths[at])
@@ -211,9 +234,11 @@ func (f *fromClause) enter(d *derived) {
 	if len(inner.found) == 0 && !inner.opens() {
 		return
 	}
-	inner.isNullable(d.at.nullable)
 	m.orders(f.plan, d.query, inner.width(d.query.list("targetList")))
 	d.inner = inner
+	if d.common != nil {
+		d.common.inner = inner
+	}
 }
 
 // isNullable tells what a subquery reads that an outer join may leave NULL.
@@ -260,6 +285,12 @@ func (f *fromClause) readPart(query node, uses func(column string) bool) {
 
 // passes adds a subquery's hidden columns to its own, and returns its tables as the query around it knows them.
 func (d *derived) passes() (outside []*item) {
+	if c := d.common; c != nil && c.passed != nil {
+		for _, it := range c.passed {
+			outside = append(outside, it.outside(d, it.passed, it.named))
+		}
+		return outside
+	}
 	f, h, columns := d.inner, &hiding{sole: d.inner.items == 1}, ""
 	its := f.found
 	for _, below := range f.derived {
@@ -290,6 +321,9 @@ func (d *derived) passes() (outside []*item) {
 	if columns != "" {
 		f.inserts(d.query, columns, f.word)
 	}
+	if d.common != nil {
+		d.common.passed = outside
+	}
 	return outside
 }
 
@@ -297,5 +331,6 @@ func (d *derived) passes() (outside []*item) {
 func (it *item) outside(d *derived, passed map[string]string, named bool) *item {
 	its := *it
 	its.name, its.passed, its.named = d.alias.text("aliasname"), passed, named
+	its.nullable = it.nullable || d.at.nullable
 	return &its
 }

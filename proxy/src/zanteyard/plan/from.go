@@ -120,7 +120,10 @@ func (f *fromClause) join(body node, at place) {
 func (f *fromClause) table(r node, at place, sampled bool) {
 	schema, name := r.text("schemaname"), r.text("relname")
 	if schema == "" && f.with[name] {
-		return // counted as WITH
+		if c := f.maker.commons[name]; c != nil {
+			f.derived = append(f.derived, c.derived(r, at, f.items))
+		}
+		return // otherwise it is counted as WITH
 	}
 	reason := ""
 	t, ok := f.maker.catalog.Find(schema, name)

@@ -14,6 +14,7 @@ type writer struct {
 	*rand.Rand
 	words []string
 	names []string // of the tables in FROM, as they are referred to
+	with  []string // of the parts of WITH
 }
 
 func (w *writer) say(words ...string) {
@@ -141,6 +142,11 @@ func (w *writer) table() {
 	if w.once(8) {
 		w.say(w.pick("LATERAL", ""))
 		w.subquery(2)
+		w.alias()
+		return
+	}
+	if len(w.with) > 0 && w.once(2) {
+		w.say(w.pick(w.with...))
 		w.alias()
 		return
 	}
@@ -274,8 +280,13 @@ func (w *writer) query() string {
 	if w.once(6) {
 		return w.aggregate()
 	}
-	if w.once(15) {
-		w.say("WITH", "x", "AS", "(", "SELECT", "id", ",", "n", "FROM", w.pick(nastyTables...), ")")
+	if w.once(6) {
+		w.say("WITH", "w", "AS", w.pick("", "", "MATERIALIZED", "NOT MATERIALIZED"))
+		w.subquery(1)
+		if w.with = []string{"w"}; w.once(2) {
+			w.say(",", "v", "AS", "(", "SELECT", w.pick("*", "id, n", "w.n, w.id"), "FROM", "w", w.pick("", "WHERE id > 2", "ORDER BY 1"), ")")
+			w.with = append(w.with, "v")
+		}
 	}
 	distinct := w.pick("", "", "", "", "", "", "", "ALL", "DISTINCT", "DISTINCT ON (1)", "DISTINCT ON (2)")
 	w.say("SELECT", distinct)

@@ -22,6 +22,7 @@ type maker struct {
 	renames bool  // something else may change what names mean
 	cursor  bool  // the statement declares one
 	passed  int   // how many hidden columns subqueries pass on
+	commons map[string]*withPart
 	// prepared: it is SQL's PREPARE. EXECUTE runs a statement before the server describes its result, so definitions may have
 	// changed in between.
 	prepared bool

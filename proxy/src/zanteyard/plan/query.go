@@ -28,8 +28,8 @@ func (m *maker) query(stmt statement, name string, body node, start int) *Plan {
 	if kindFound(body, "SubLink") {
 		p.leaveOut("a subquery")
 	}
-	if body.has("withClause") {
-		p.leaveOut("WITH")
+	if body.has("withClause") && (name != "SelectStmt" || !m.opensWith(body)) {
+		p.leaveOut(aWith)
 	}
 	field := "returningList"
 	switch name {
@@ -37,6 +37,11 @@ func (m *maker) query(stmt statement, name string, body node, start int) *Plan {
 		field = "targetList"
 		p.ByKey = m.byKey(body)
 		m.selects(p, body, start, stmt.to)
+		for _, c := range m.commons {
+			if c.refs > 0 && !c.seen && !c.empty {
+				p.leaveOut(aWith)
+			}
+		}
 		m.asksBy(p, body)
 		if p.Kind == Select && !m.readsTables(body) {
 			p.ofNoTable()
@@ -67,6 +72,7 @@ func kindFound(value any, wanted string) bool {
 // finish checks an insertion by parsing the result, and writes the sample that is tried on a connection.
 func (m *maker) finish(p *Plan, stmt statement, field string, start int) {
 	if !p.adds() {
+		p.positions = nil
 		return
 	}
 	sort.Slice(p.insertions, func(i, j int) bool { return p.insertions[i].token < p.insertions[j].token })

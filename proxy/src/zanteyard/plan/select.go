@@ -43,6 +43,7 @@ func (m *maker) selects(p *Plan, body node, start, end int) {
 	}
 	f.unsorted = lists && body.has("groupClause") && !m.sortsGroups(body, f)
 	f.open(body, !lists)
+	f.closeWith()
 	found := f.groups()
 	if len(found) == 0 && !f.opens() {
 		return
@@ -74,6 +75,7 @@ func (f *fromClause) result(h *hiding, body node, found []*item, word int) {
 			continue
 		}
 		if d.carried {
+			d.inner.isNullable(d.at.nullable)
 			d.inner.result(&hiding{sole: d.inner.items == 1}, d.query, d.inner.found, d.inner.word)
 		} else {
 			found = append(found[:len(found):len(found)], d.passes()...)

@@ -7,7 +7,7 @@ import (
 	"zanteyard/plan"
 )
 
-// TestDerived runs subqueries in FROM: what is answered is the same, and what was read is told, or why it isn't.
+// TestDerived runs subqueries in FROM and WITH: what is answered is the same, and what was read is told, or why it isn't.
 func TestDerived(t *testing.T) {
 	needServer(t)
 	sql(t, fill)
@@ -22,6 +22,11 @@ func TestDerived(t *testing.T) {
 		{"SELECT s.id, u.v FROM (SELECT t.id FROM t ORDER BY t.v LIMIT 2) AS s LEFT JOIN u ON u.a = s.id ORDER BY s.id, u.b", 8, ""},
 		{"SELECT t.v, l.x FROM t, LATERAL (SELECT x FROM listed WHERE listed.id = t.id LIMIT 1) l WHERE t.id < 3", 4, ""},
 		{"SELECT s.h FROM (SELECT h FROM listed WHERE h = 5) s", 0, plan.ByIndex},
+		{"WITH w AS (SELECT id, x FROM listed WHERE g = 5) SELECT * FROM w", 10, ""},
+		{"WITH w AS MATERIALIZED (SELECT id, x FROM listed WHERE g = 5) SELECT a.x, b.x FROM w a JOIN w b ON a.id = b.id + 9", 2, ""},
+		{"WITH w AS (SELECT id, x FROM listed WHERE g = 5), v AS (SELECT * FROM w WHERE id > 55) SELECT v.x, t.v FROM v LEFT JOIN t USING (id)",
+			4, ""},
+		{"WITH w AS (SELECT id, x FROM listed WHERE g = 5) SELECT x FROM w WHERE x IN (SELECT x FROM w)", 0, "WITH"},
 		{"SELECT count(*) FROM (SELECT x FROM listed WHERE g = 5) s", 0, "an aggregate"},
 	})
 }

@@ -216,6 +216,9 @@ func shapes() []shape {
 		{"SELECT * FROM (SELECT a, b, tag FROM two WHERE a = $1) s", key, two},
 		{"SELECT s.id, s.tag, q.a, q.b, q.tag FROM (SELECT * FROM one ORDER BY id LIMIT 4) s " +
 			"LEFT JOIN (SELECT r.* FROM (SELECT b, tag, a FROM two) r WHERE r.b > 'b2') q ON q.a = s.id WHERE s.n >= $1", key, both},
+		{"WITH w AS (SELECT id, tag FROM parts WHERE id < $1) SELECT * FROM w ORDER BY id", key, parts},
+		{"WITH w AS MATERIALIZED (SELECT * FROM one WHERE n >= $1), v AS (SELECT tag, b, a FROM two WHERE b > 'b2') " +
+			"SELECT w.id, w.tag, v.a, v.b, v.tag FROM w LEFT JOIN v ON v.a = w.id ORDER BY w.id", key, both},
 		{"UPDATE one SET tag = $1 WHERE id = $2", tagKey, none},
 		{"UPDATE one SET tag = $1, n = n + 1 WHERE id = $2 RETURNING n", tagKey, none},
 		{"UPDATE two SET tag = $1 WHERE a = $2", tagKey, none},
