@@ -44,6 +44,9 @@ func (p *Plan) AppendReads(to []record.Read, values [][]byte, binary bool) ([]re
 			}
 			continue
 		}
+		if source.Nullable && group[0] == nil {
+			continue
+		}
 		if source.RowType != 0 && !source.hasType(group[len(group)-1], binary) {
 			return to, ErrOtherRelation
 		}

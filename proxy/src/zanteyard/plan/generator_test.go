@@ -276,9 +276,52 @@ func (w *writer) aggregate() string {
 	return w.text()
 }
 
+// union writes a UNION ALL.
+func (w *writer) union() string {
+	for i, parts := 0, 2+w.Intn(3); i < parts; i++ {
+		inside := w.once(6)
+		if i > 0 {
+			w.say("UNION", w.pick("ALL", "ALL", "ALL", "ALL", "all", "ALL", "ALL", ""))
+		}
+		if inside {
+			w.say("(")
+		}
+		w.names = nil
+		w.say("SELECT")
+		switch w.Intn(8) {
+		case 0:
+			w.say("1", ",", "2", "AS", w.pick("union", "x", "order"), w.pick("", "WHERE true"))
+		case 1:
+			w.say("count(*)", ",", "max(n)", "FROM", w.pick(nastyTables...))
+		default:
+			head := w.words
+			w.words = nil
+			w.from()
+			from := w.words
+			w.words = head
+			w.expression(1)
+			w.say(w.pick("", "AS from", "label"), ",")
+			w.say(w.pick(w.names...), ".", "n")
+			w.say(from...)
+			if w.once(2) {
+				w.say("WHERE")
+				w.condition(1)
+			}
+		}
+		if inside {
+			w.say(w.pick("ORDER BY 1, 2 LIMIT 2", "ORDER BY 2", ""), ")")
+		}
+	}
+	w.say(w.pick("", "ORDER BY 1, 2", "ORDER BY 2, 1 LIMIT 5", "ORDER BY label", "ORDER BY 3"))
+	return w.text()
+}
+
 func (w *writer) query() string {
-	if w.once(6) {
+	switch w.Intn(12) {
+	case 0, 1:
 		return w.aggregate()
+	case 2:
+		return w.union()
 	}
 	if w.once(6) {
 		w.say("WITH", "w", "AS", w.pick("", "", "MATERIALIZED", "NOT MATERIALIZED"))

@@ -175,7 +175,7 @@ func (m *maker) sound(p *Plan, stmt statement, field string) bool {
 	} else {
 		hidden = body.cut(field)
 	}
-	return hidden == p.Hidden() && alike(stmt.tree, rewritten)
+	return hidden == p.Hidden()*m.times() && alike(stmt.tree, rewritten)
 }
 
 // cutAll is cut for a SELECT and all parts of a UNION.
@@ -187,6 +187,14 @@ func (n node) cutAll(field string) (results int) {
 		}
 	}
 	return results
+}
+
+// times returns how often a statement has its hidden columns.
+func (m *maker) times() int {
+	if m.parts > 0 {
+		return m.parts
+	}
+	return 1
 }
 
 // cut removes the hidden columns at the end of a list, and returns how many of them are those of the statement's result.

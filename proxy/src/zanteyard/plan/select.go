@@ -4,12 +4,16 @@ import "zanteyard/catalog"
 
 // selects adds the hidden columns of each table whose rows a SELECT returns, one for each row of its result.
 func (m *maker) selects(p *Plan, body node, start, end int) {
-	if body.has("intoClause") {
+	if makesTable(body) {
 		p.Kind, p.MayWriteUnseen, p.ChangesNames = Definition, true, true
 		p.leaveOut("a table created from a query")
 		return
 	}
 	if body.has("valuesLists") {
+		return
+	}
+	if body.has("larg") {
+		m.unites(p, body, end)
 		return
 	}
 	lists, reason := m.merges(body)
@@ -104,6 +108,11 @@ func (f *fromClause) inserts(body node, columns string, word int) {
 	f.plan.insertions = append(f.plan.insertions, insertion{text: columns + " ", token: word})
 }
 
+// makesTable reports whether a SELECT makes a table of its result. Of a UNION the first part says that.
+func makesTable(body node) bool {
+	return body.has("intoClause") || body.has("larg") && makesTable(body.node("larg"))
+}
+
 // anAggregate is why the rows aren't listed that an aggregate was made of, if the result may depend on how they are read.
 const anAggregate = "an aggregate"
 
@@ -112,7 +121,7 @@ const anAggregate = "an aggregate"
 func (m *maker) merges(body node) (lists bool, reason string) {
 	switch {
 	case body.text("op") != "" && body.text("op") != "SETOP_NONE":
-		return false, "UNION, INTERSECT or EXCEPT"
+		return false, aUnion
 	case body.has("distinctClause") && !distinctOn(body):
 		return true, ""
 	case body.has("groupClause"): // a table whose whole key is grouped by has one row in each group

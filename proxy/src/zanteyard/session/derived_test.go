@@ -7,7 +7,7 @@ import (
 	"zanteyard/plan"
 )
 
-// TestDerived runs subqueries in FROM and WITH: what is answered is the same, and what was read is told, or why it isn't.
+// TestDerived runs subqueries in FROM, WITH and UNION ALL: what is answered is the same, and what was read is told, or why it isn't.
 func TestDerived(t *testing.T) {
 	needServer(t)
 	sql(t, fill)
@@ -27,6 +27,10 @@ func TestDerived(t *testing.T) {
 		{"WITH w AS (SELECT id, x FROM listed WHERE g = 5), v AS (SELECT * FROM w WHERE id > 55) SELECT v.x, t.v FROM v LEFT JOIN t USING (id)",
 			4, ""},
 		{"WITH w AS (SELECT id, x FROM listed WHERE g = 5) SELECT x FROM w WHERE x IN (SELECT x FROM w)", 0, "WITH"},
+		{"SELECT x FROM listed WHERE g = 5 UNION ALL SELECT v FROM t WHERE id < 4", 13, ""},
+		{"SELECT x, 'a' FROM listed WHERE g = 5 UNION ALL SELECT 1, 'b' UNION ALL (SELECT v, w FROM t ORDER BY id LIMIT 2) ORDER BY 1", 12, ""},
+		{"SELECT x FROM listed WHERE g = 5 UNION ALL SELECT count(*) FROM t", 10, "UNION"},
+		{"SELECT x FROM listed WHERE g = 5 UNION SELECT v FROM t WHERE id < 4", 0, "UNION"},
 		{"SELECT count(*) FROM (SELECT x FROM listed WHERE g = 5) s", 0, "an aggregate"},
 	})
 }

@@ -219,6 +219,8 @@ func shapes() []shape {
 		{"WITH w AS (SELECT id, tag FROM parts WHERE id < $1) SELECT * FROM w ORDER BY id", key, parts},
 		{"WITH w AS MATERIALIZED (SELECT * FROM one WHERE n >= $1), v AS (SELECT tag, b, a FROM two WHERE b > 'b2') " +
 			"SELECT w.id, w.tag, v.a, v.b, v.tag FROM w LEFT JOIN v ON v.a = w.id ORDER BY w.id", key, both},
+		{"SELECT id, tag, 'parts' AS t FROM parts WHERE id < $1 UNION ALL SELECT id, tag, 'one' FROM one WHERE n >= $1 ORDER BY 3, 1", key,
+			func(row []string) []seen { return []seen{{row[2], row[0], row[1]}} }},
 		{"UPDATE one SET tag = $1 WHERE id = $2", tagKey, none},
 		{"UPDATE one SET tag = $1, n = n + 1 WHERE id = $2 RETURNING n", tagKey, none},
 		{"UPDATE two SET tag = $1 WHERE a = $2", tagKey, none},
