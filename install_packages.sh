@@ -24,7 +24,7 @@ fi
 echo "installing ${#names[@]} packages: ${names[*]}"
 export DEBIAN_FRONTEND=noninteractive
 timeout 300 apt-get update -qq > /dev/null 2>&1 || true
-if ! timeout 1200 apt-get install -y -qq --no-install-recommends "${names[@]}" > /dev/null 2>&1; then
+if ! timeout 1200 apt-get install -y -qq -o DPkg::Lock::Timeout=120 --no-install-recommends "${names[@]}" > /dev/null 2>&1; then
     for name in "${names[@]}"; do # so that one which isn't available doesn't prevent the others
         timeout 600 apt-get install -y -qq --no-install-recommends "$name" > /dev/null 2>&1 || true
     done

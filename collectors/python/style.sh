@@ -3,7 +3,7 @@
 set -euo pipefail
 cd "$(dirname "$0")"
 python=${1:-python3}
-files="zanteyard import_graph.py make_deb.py make_wheel.py run_tests.py"
+files="zanteyard conftest.py import_graph.py make_deb.py make_wheel.py run_tests.py"
 files+=$(printf ' ../../examples/%s.py' postgres_live store_faults bank shop try_postgres rules)
 if command -v ruff > /dev/null; then
     ruff check --no-cache --line-length 100 --select E,W --ignore E203,E402,E701,E731 $files

@@ -1,5 +1,5 @@
 #!/usr/bin/env bash
-# Tests the collectors: types, style, and the unit tests, in parallel processes that start their own servers. It needs a built auditor
+# Tests the collectors: types, style, and the tests, by pytest in parallel processes that start their own servers. It needs a built auditor
 # (crates/cobra_audit/out/cobra_audit, or the one that COBRA_AUDIT names). If something isn't installed, one line says what is skipped. It
 # takes about twenty minutes on four processors, and always ends: a test that hangs is killed after 2700 s, or ZANTEYARD_SECONDS, and fails.
 #
@@ -47,8 +47,8 @@ else
 fi
 failed=0
 ./style.sh "$python" || failed=1
-# Up to two modules that failed next to others run once more by themselves: both results are printed.
-limited $((seconds + 60)) run_tests.py --seconds "$seconds" --slowest 10 --again 2 || failed=1
+# What failed of up to two modules next to others runs once more by itself: both results are printed.
+limited $((seconds + 60)) run_tests.py --seconds "$seconds" --again 2 || failed=1
 if [ -n "$types" ]; then
     wait "$types" || failed=1
     types=
