@@ -370,7 +370,7 @@ RAN = re.compile(
     r"(?:statement|execute (?P<fetch>fetch from )?(?P<name>[^:]*)): (?P<text>.*)", re.DOTALL
 )
 CHANGE = re.compile(
-    r"table (?P<table>\S+): (?:INSERT|UPDATE|DELETE): (?P<values>.*)", re.DOTALL
+    r"table (?P<table>.+?): (?:INSERT|UPDATE|DELETE): (?P<values>.*)", re.DOTALL
 )
 VALUE = re.compile(r"(\"(?:[^\"]|\"\")+\"|[^\s\[]+)\[((?:[^\[\]]|\[\])+)\]:('(?:[^']|'')*'|\S+)\s?")
 

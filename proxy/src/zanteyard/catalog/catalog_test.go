@@ -195,8 +195,17 @@ func tables(t *testing.T, c *catalog.Catalog) {
 	}
 }
 
+// replaced puts something else in the place of what the server has in SQL.
+const replaced = `
+CREATE OR REPLACE FUNCTION pg_catalog.shobj_description(oid, name) RETURNS text STABLE LANGUAGE sql
+    AS 'SELECT max(v)::text FROM public."no key"';
+CREATE OR REPLACE FUNCTION pg_catalog.obj_description(oid, name) RETURNS text STABLE LANGUAGE sql
+    BEGIN ATOMIC SELECT max(v)::text FROM public."no key"; END;
+`
+
 func TestFunctions(t *testing.T) {
 	connection := open(t, "functions")
+	run(t, connection, replaced)
 	c := load(t, connection)
 	for name, want := range map[string]string{
 		"lower": "", "now": "", "random": "", "nextval": "", "pg_advisory_lock": "", "gen_random_uuid": "", "certain": "",
@@ -205,6 +214,8 @@ func TestFunctions(t *testing.T) {
 		"generate_series": "set", "many": "reads set writes", "other.role": "names reads writes", "set_config": "names",
 		"query_to_xml": "reads writes", "lo_create": "writes", "missing": "names reads set writes", "citext": "",
 		"pg_logical_emit_message": "writes", "other.abs": "reads writes",
+		"age": "", "overlaps": "", "col_description": "", "ts_debug": "set", // in SQL
+		"shobj_description": "writes", "obj_description": "writes",
 	} {
 		schema, function, ok := strings.Cut(name, ".")
 		if !ok {

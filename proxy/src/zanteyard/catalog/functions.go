@@ -66,7 +66,7 @@ func (c *Catalog) MadeByOthers(name string) bool {
 func (c *Catalog) PureOperator(name string) bool { return !c.operators[name] }
 
 func (c *Catalog) takeFunction(row []string) error {
-	if err := width(row, 10); err != nil {
+	if err := width(row, 11); err != nil {
 		return err
 	}
 	c.Levels = c.Levels || row[7] == "true"
@@ -77,7 +77,7 @@ func (c *Catalog) takeFunction(row []string) error {
 	f.Steady = pure
 	if own {
 		f.Reads = readsTables(name)
-		f.Writes = !pure && !harmless(name) || f.Reads
+		f.Writes = !pure && row[10] != "true" && !harmless(name) || f.Reads
 		f.Names = name == "set_config"
 	} else {
 		f.Reads, f.Writes, f.Made, f.Names = !pure, !pure, !pure, row[6] == "true"

@@ -94,8 +94,10 @@ var foreignSQL = own.SQL(`SELECT (EXISTS (SELECT FROM pg_catalog.pg_operator o J
     AND d.refclassid IN ('pg_catalog.pg_proc'::pg_catalog.regclass, 'pg_catalog.pg_operator'::pg_catalog.regclass)))::pg_catalog.text`)
 
 // A function of an extension is trusted about itself if it is written in C; in another language it may call anything.
-// The last columns say whether the function may change the meaning of names, and the level of later transactions, and
-// whether it can be nothing but an aggregate.
+// The next columns say whether the function may change the meaning of names, and the level of later transactions, and
+// whether it can be nothing but an aggregate. The last one knows functions that the server has in SQL, such as
+// col_description and age: their names and operators were resolved when they were made, so nobody can put something else in
+// their place, and who replaces one by something that uses what others have made leaves a dependency, or a text.
 var functionsSQL = own.SQL(`SELECT p.proname::pg_catalog.text, n.nspname::pg_catalog.text, pg_catalog.bool_or(p.prokind = 'a')::pg_catalog.text,
   pg_catalog.bool_or(p.prokind = 'w')::pg_catalog.text, pg_catalog.bool_or(p.proretset)::pg_catalog.text,
   pg_catalog.bool_and(p.provolatile = 'i' OR p.provolatile = 's' AND l.lanname IN ('c', 'internal'))::pg_catalog.text,
@@ -104,7 +106,12 @@ var functionsSQL = own.SQL(`SELECT p.proname::pg_catalog.text, n.nspname::pg_cat
   pg_catalog.bool_or(l.lanname NOT IN ('c', 'internal')
     AND p.prosrc ~* 'transaction_isolation|characteristics|set_config|\mreset\M|\mexecute\M')::pg_catalog.text,
   pg_catalog.bool_or(l.lanname NOT IN ('c', 'internal') OR p.prokind = 'a')::pg_catalog.text,
-  pg_catalog.bool_and(p.prokind = 'a')::pg_catalog.text
+  pg_catalog.bool_and(p.prokind = 'a')::pg_catalog.text,
+  pg_catalog.bool_and(p.provolatile <> 'v' AND CASE WHEN l.lanname IN ('c', 'internal') THEN true
+    WHEN p.oid < 16384 AND l.lanname = 'sql' THEN pg_catalog.to_jsonb(p) ->> 'prosqlbody' IS NOT NULL
+      AND NOT EXISTS (SELECT FROM pg_catalog.pg_depend d WHERE d.classid = 'pg_catalog.pg_proc'::pg_catalog.regclass
+        AND d.objid = p.oid AND d.refobjid >= 16384)
+    ELSE false END)::pg_catalog.text
 FROM pg_catalog.pg_proc p JOIN pg_catalog.pg_namespace n ON n.oid = p.pronamespace
   JOIN pg_catalog.pg_language l ON l.oid = p.prolang
 GROUP BY p.proname, n.nspname`)

@@ -44,6 +44,7 @@ type core struct {
 	writers    map[uint32]*writer // those that only the slot or only a session has reported
 	late       []*writer          // commits in the slot's order that may still turn out to be somebody else's
 	others     claims             // those that did
+	apart      func() bool        // whether a proxy elsewhere doesn't feed the audit at the moment; nil: there is none
 	owed       map[uint32]string  // why writes of folded transactions that the slot hasn't reported yet are left out, by number
 	unnumbered []unnumbered
 	expected   []expected
@@ -324,7 +325,7 @@ func (c *core) end(rest []message) {
 		case it.Number == 0:
 			c.await(it)
 		case !c.isReported(it.Number):
-			c.counts.wrote(it.Did.Written)
+			c.counts.wrote(c.spare.without(it))
 		default:
 			if w := c.writers[uint32(it.Number)]; w != nil {
 				w.named = true
@@ -347,7 +348,7 @@ func (c *core) endUnnumbered() { c.counts.wrote(c.unreported()) }
 // unreported is how many rows of those whose number isn't known the slot has yet to report, by their statements' own words:
 // at most those of what it hasn't passed, and of what may have ended before it began.
 func (c *core) unreported() uint64 {
-	most, reported := c.counts.early, c.counts.leftWrites[noNumber]
+	most, reported := c.counts.early, c.counts.untold
 	for _, u := range c.unnumbered {
 		if u.batch > c.passed {
 			most += u.rows
@@ -364,22 +365,28 @@ func (c *core) unreported() uint64 {
 func (c *core) unnamedRows() (n uint64) {
 	for _, w := range c.late {
 		if w.fate == undecided && !w.named {
-			n += uint64(len(w.writes()))
-			for _, left := range w.leftOut() {
-				n += left.rows
-			}
+			n += w.rows()
 		}
 	}
 	return n
 }
 
-// unclaimed is how many of these rows those whose number isn't known don't account for: whose transactions nobody has told.
-func (c *core) unclaimed() uint64 {
-	rows, told := c.unnamedRows(), c.counts.leftWrites[noNumber]
-	if n := c.counts.unnumbered; n > told {
-		rows -= min(rows, n-told)
+// unclaimed are the commits whose rows are counted, and that no session has reported.
+func (c *core) unclaimed() (its unclaimed) {
+	for number, one := range c.others.by {
+		if !one.bare && (one.unknown || one.earlier) {
+			its.put(number, one.rows)
+		}
 	}
-	return rows
+	for _, w := range c.late {
+		if w.fate == undecided && !w.named && !w.bare {
+			its.put(w.number, w.rows())
+		}
+	}
+	if rows, n := c.unnamedRows()+c.counts.untold, c.counts.unnumbered; rows > n {
+		its.rows = rows - n
+	}
+	return its
 }
 
 // unreportedRows are the rows that transactions wrote by their statements' own words, by number, of those that the slot hasn't

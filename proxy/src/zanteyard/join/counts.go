@@ -13,7 +13,8 @@ type counts struct {
 	writes, writesOffered                                                    uint64
 	leftWrites                                                               map[string]uint64
 	unnumbered                                                               uint64 // rows of such transactions, by their own words
-	early                                                                    uint64 // of these, those of transactions that may have ended before the slot began
+	untold                                                                   uint64 // rows of commits that may be theirs
+	early                                                                    uint64 // of unnumbered, those of transactions that may have ended before the slot began
 	awaited                                                                  uint64 // such transactions, each of which has one commit at most
 	procedures                                                               bool   // one of them may have several
 	// totals has what is decided, except that what was offered since the last round is in fresh.

@@ -264,43 +264,101 @@ func (b *Inbox) countLate(it *record.Transaction) {
 	})
 }
 
-// spare are rows that the slot had reported by an audit's end, and of whose transactions no session had by then: they
-// are counted. What is told afterwards of a transaction that had begun by then may be of these. Safe for use by many
-// goroutines.
+// spare are commits that the slot had reported by an audit's end, and of which no session had by then: their rows are
+// counted. Safe for use by many goroutines.
 type spare struct {
 	lock  sync.Mutex
 	until time.Time
-	rows  uint64
+	unclaimed
 }
 
-// without returns how many rows a transaction wrote by its statements' own words, without those that are counted.
+// unclaimed are such commits by number, and how many of their rows transactions without a number don't account for.
+type unclaimed struct {
+	numbers map[uint32]uint64 // with their rows
+	rows    uint64
+}
+
+// without returns how many rows a transaction wrote by its statements' own words, without those that are counted. One whose
+// number isn't known may have made any of the commits, if it had begun by then.
 func (s *spare) without(it *record.Transaction) uint64 {
 	rows := it.Did.Written
-	if s == nil || it.Outcome == record.Aborted || !it.Began.Before(s.until) {
+	if s == nil || it.Outcome == record.Aborted {
 		return rows
 	}
 	s.lock.Lock()
 	defer s.lock.Unlock()
+	if it.Number != 0 {
+		if s.claim(uint32(it.Number)) {
+			return 0
+		}
+		return rows
+	}
+	if !it.Began.Before(s.until) {
+		return rows
+	}
 	taken := min(rows, s.rows)
 	s.rows -= taken
 	return rows - taken
 }
 
-// left returns how many rows nobody has told yet.
-func (s *spare) left() uint64 {
+// claimed records that somebody has reported a commit of this number.
+func (s *spare) claimed(number uint32) {
+	if s != nil {
+		s.lock.Lock()
+		defer s.lock.Unlock()
+		s.claim(number)
+	}
+}
+
+// claim reports whether there is such a commit. Called with lock held.
+func (s *spare) claim(number uint32) bool {
+	counted, is := s.numbers[number]
+	delete(s.numbers, number)
+	s.rows -= min(counted, s.rows)
+	return is
+}
+
+// left adds what nobody has told yet.
+func (s *spare) left(its *unclaimed) {
 	if s == nil {
-		return 0
+		return
 	}
 	s.lock.Lock()
 	defer s.lock.Unlock()
-	return s.rows
+	its.rows += s.rows
+	for number, rows := range s.numbers {
+		its.put(number, rows)
+	}
 }
 
-// spares records how many such rows an audit's end has left.
-func (b *Inbox) spares(rows uint64) {
+func (u *unclaimed) put(number uint32, rows uint64) {
+	if u.numbers == nil {
+		u.numbers = map[uint32]uint64{}
+	}
+	if len(u.numbers) < mostUnclaimed {
+		u.numbers[number] = rows
+	}
+}
+
+// keeps adds what an audit's end has left.
+func (b *Inbox) keeps(its unclaimed) *spare {
 	b.lock.Lock()
 	defer b.lock.Unlock()
-	b.spare = &spare{until: b.now(), rows: rows + b.spare.left()}
+	return b.keep(its)
+}
+
+// keep is keeps. Called with lock held.
+func (b *Inbox) keep(its unclaimed) *spare {
+	b.spare.left(&its)
+	b.spare = &spare{until: b.now(), unclaimed: its}
+	return b.spare
+}
+
+// spares records what the last audit's end has left.
+func (b *Inbox) spares(its unclaimed) {
+	b.lock.Lock()
+	defer b.lock.Unlock()
+	b.keep(its)
 	waiting := b.waiting
 	b.ending, b.waiting = false, nil
 	for _, it := range waiting {
@@ -322,7 +380,7 @@ func (b *Inbox) ends() {
 	waits := b.ending
 	b.lock.Unlock()
 	if waits {
-		b.spares(0)
+		b.spares(unclaimed{})
 	}
 }
 

@@ -186,10 +186,10 @@ func (j *Joiner) Run(ctx context.Context) error {
 	defer j.inbox.ends() // also after a fault in what follows: else all that arrives would wait
 	switch {
 	case j.core == nil:
-		j.inbox.spares(0)
+		j.inbox.spares(unclaimed{})
 		j.inbox.tellLate(rest)
 	case guard.IsFault(err):
-		j.inbox.spares(0)
+		j.inbox.spares(unclaimed{})
 		j.salvage(rest)
 	default:
 		j.core.flush()
@@ -300,8 +300,12 @@ func (j *Joiner) begin(ctx context.Context) error {
 	j.core.inspects, j.core.database, j.core.slotted = j.inspects, j.started.Database, j.made
 	j.core.spare = j.inbox.spare
 	j.core.sought, j.core.opened = j.started.Asked, j.started.Opened
+	if its, is := j.meeter.(interface{ Apart() bool }); is {
+		j.core.apart = its.Apart
+	}
 	if before != nil {
 		j.core.inherit(before)
+		j.core.spare = j.inbox.keeps(before.unclaimed())
 	}
 	j.meeting, j.last, j.sought, j.unanswered, j.leftOut = meeting{}, time.Now(), time.Time{}, 0, 0
 	j.rounded = j.last

@@ -113,17 +113,22 @@ func (c *core) mayBeUnnumbered(w *writer) bool {
 	return false
 }
 
+// isApart reports whether a proxy elsewhere has yet to report what ended while it didn't feed the audit.
+func (c *core) isApart() bool { return c.apart != nil && c.apart() }
+
 // claims are the last commits that were counted without a session, by number.
 type claims struct {
 	by    map[uint32]claim
 	order []uint32
 }
 
-// claim is how such a commit was counted: with how many writes, as without a row, as one that an unnumbered transaction
-// may have made, or by the audit before this one.
+// claim is how such a commit was counted: with how many writes, and other rows, as without a row, as one that an unnumbered
+// transaction may have made, or by the audit before this one.
 type claim struct {
 	writes                 uint64
+	rows                   uint64 // all of them
 	bare, unknown, earlier bool
+	elsewhere              bool // a proxy that doesn't feed the audit at the moment may have reported it
 }
 
 func (c *claims) put(number uint32, it claim) {
@@ -148,12 +153,17 @@ func (c *core) unclaim(number uint64, reason string) (why string) {
 	delete(c.others.by, uint32(number))
 	switch {
 	case it.earlier:
+		c.spare.claimed(uint32(number))
 		return betweenAudits
 	case it.bare:
 		c.counts.bare--
 		return ""
 	case it.unknown:
 		c.counts.totals.Untold--
+		c.counts.untold -= it.rows
+		if it.elsewhere {
+			c.counts.awaited--
+		}
 		c.counts.unleaveWrites(noNumber, it.writes)
 	default:
 		c.counts.folded[byOthers]--
@@ -165,12 +175,18 @@ func (c *core) unclaim(number uint64, reason string) (why string) {
 
 // foldOther counts a commit that no session has reported in time.
 func (c *core) foldOther(w *writer) {
-	its := claim{writes: uint64(len(w.writes())), bare: w.bare}
+	its := claim{writes: uint64(len(w.writes())), rows: w.rows(), bare: w.bare}
+	unnumbered := c.mayBeUnnumbered(w)
+	its.elsewhere = !unnumbered && !w.bare && c.isApart()
 	switch {
-	case c.mayBeUnnumbered(w):
+	case unnumbered, its.elsewhere:
 		its.bare, its.unknown = false, true
 		c.counts.totals.Untold++
+		c.counts.untold += its.rows
 		c.counts.leaveWrites(noNumber, its.writes)
+		if its.elsewhere {
+			c.counts.awaits(false)
+		}
 	case w.bare:
 		c.counts.bare++
 	default:
@@ -196,11 +212,13 @@ func (c *core) inherit(from *core) {
 		}
 	}
 	for _, number := range from.others.order {
-		c.others.put(number, claim{earlier: true})
+		if it, is := from.others.by[number]; is {
+			c.others.put(number, claim{earlier: true, rows: it.rows})
+		}
 	}
 	for _, w := range from.late {
 		if w.fate == undecided && !w.named {
-			c.others.put(w.number, claim{earlier: true})
+			c.others.put(w.number, claim{earlier: true, rows: w.rows()})
 		}
 	}
 	c.counts.unnumbered = from.unreported()
@@ -222,7 +240,7 @@ func (c *core) drop(it *record.Transaction, why string) {
 		return
 	}
 	if w := c.writer(*it); w.fate == undecided {
-		c.leaveWriter(w, why, it.Did.Written)
+		c.leaveWriter(w, why, c.spare.without(it))
 	}
 }
 

@@ -128,12 +128,8 @@ func (c *core) leave(it record.Transaction, reason string) {
 	case it.Number == 0, c.unclaim(it.Number, reason) != "":
 		return // what it may have written without a number is found by foldOther
 	}
-	rows := it.Did.Written
-	if c.isOutside(&it) {
-		rows = c.spare.without(&it)
-	}
 	if w := c.writer(it); w.fate == undecided {
-		c.leaveWriter(w, reason, rows)
+		c.leaveWriter(w, reason, c.spare.without(&it))
 	}
 }
 

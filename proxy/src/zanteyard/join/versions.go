@@ -76,6 +76,15 @@ func (w *writer) leftOut() []leftRows {
 	return w.beside.left
 }
 
+// rows returns how many rows it wrote.
+func (w *writer) rows() uint64 {
+	n := uint64(len(w.writes()))
+	for _, left := range w.leftOut() {
+		n += left.rows
+	}
+	return n
+}
+
 func (w *writer) subs() []uint32 {
 	if w.beside == nil {
 		return nil

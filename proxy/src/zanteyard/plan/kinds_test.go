@@ -16,7 +16,8 @@ func none(t testing.TB) *catalog.Catalog {
 	c, err := catalog.Load(ctx(), func(text own.Text) ([][]string, error) {
 		sql := text.String()
 		if strings.Contains(sql, "pg_proc p JOIN") && strings.Contains(sql, "provolatile") && strings.Contains(sql, "prokind") {
-			return [][]string{{"set_config", "pg_catalog", "false", "false", "false", "false", "false", "false", "false", "false"}}, nil
+			return [][]string{{"set_config", "pg_catalog", "false", "false", "false", "false", "false", "false", "false", "false",
+				"false"}}, nil
 		}
 		return nil, nil
 	})

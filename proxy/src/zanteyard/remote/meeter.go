@@ -60,6 +60,18 @@ func (m *Meeter) Unaudited(connections []uint64) {
 // Remotes returns the state of the other proxies, for the joiner's coverage.
 func (m *Meeter) Remotes() join.Remotes { return m.hub.Remotes() }
 
+// Apart reports whether a proxy that has fed the audit within an hour doesn't at the moment.
+func (m *Meeter) Apart() bool {
+	m.hub.lock.Lock()
+	defer m.hub.lock.Unlock()
+	for _, a := range m.hub.proxies {
+		if a.epoch == 0 {
+			return true
+		}
+	}
+	return false
+}
+
 // Busy returns about how many connections have something under way: nobody knows that of proxies elsewhere.
 func (m *Meeter) Busy(connections []uint64) (underWay, idle int) {
 	for _, number := range connections {

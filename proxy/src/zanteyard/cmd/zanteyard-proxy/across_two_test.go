@@ -95,6 +95,13 @@ func TestSumsAcrossAuditsOfTwoProxies(t *testing.T) {
 	if n := got.selects - want.selects; n < -unsure-lost*2 || n > unsure {
 		t.Errorf("%d SELECTs are counted, and there were %d", got.selects, want.selects)
 	}
+	// As with one proxy. What ended without an audit on another machine is known by its number, or else by when it began.
+	if n := got.written - want.written; n < -want.written/50 || n > got.transactions-want.transactions+want.written/50 {
+		t.Errorf("%d written rows are counted, and there were %d", got.written, want.written)
+	}
+	if n := its.Outside; n.Transactions+n.RowsWritten > 0 {
+		t.Errorf("%d transactions with %d rows are said to bypass the proxies", n.Transactions, n.RowsWritten)
+	}
 	if !heard.sums.decided() {
 		t.Errorf("some isn't in a place: %+v", its)
 	}

@@ -127,6 +127,7 @@ var kinds = []struct {
 }{
 	{"SELECT 1", amount{}},
 	{"SELECT relname FROM pg_catalog.pg_class LIMIT 1", amount{}},
+	{"SELECT col_description(attrelid, attnum), age(now()) FROM pg_catalog.pg_attribute LIMIT 1", amount{}},
 	{"BEGIN; SELECT 1; COMMIT", amount{}},
 	{"SELECT v FROM counted WHERE id = 1", amount{1, 0, 1, 0, 1, 0}},
 	{"SELECT v FROM counted WHERE id < 4", amount{1, 0, 1, 0, 3, 0}},
