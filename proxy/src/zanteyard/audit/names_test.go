@@ -9,6 +9,8 @@ import (
 	"testing"
 	"time"
 
+	"github.com/jackc/pgconn"
+
 	"zanteyard/catalog"
 	"zanteyard/record"
 	"zanteyard/slot"
@@ -181,11 +183,32 @@ func hearSlot(t *testing.T, plugin slot.Plugin) {
 	if place, err := control.Place(ctx); err != nil || len(place.Changed)+len(place.Rewritten) != 0 {
 		t.Errorf("nothing has changed, and the place is %+v (%v)", place, err)
 	}
+	mayMean(t, conn, control)
 	if kept, err := control.Health(ctx, "names"); err != nil || kept.Lost || kept.Kept > 1<<30 {
 		t.Errorf("the slot is %+v (%v)", kept, err)
 	}
 	if gone, err := control.Health(ctx, "another"); err != nil || !gone.Lost {
 		t.Errorf("a slot that isn't there is %+v (%v)", gone, err)
+	}
+}
+
+// mayMean: that an operator or a schema was made is noticed, also if it was dropped again by then, or undone.
+func mayMean(t *testing.T, conn *pgconn.PgConn, control *slot.Control) {
+	t.Helper()
+	const makes, drops = "CREATE OPERATOR public.@@@@ (LEFTARG = int, RIGHTARG = int, FUNCTION = int4eq)", "DROP OPERATOR public.@@@@ (int, int)"
+	for _, one := range []struct {
+		text string
+		want bool
+	}{
+		{"SELECT 1", false}, {makes + "; COMMIT; " + drops, true}, {"SELECT 1", false}, {"BEGIN; " + makes + "; " + drops + "; COMMIT", true},
+		{"BEGIN; " + makes + "; ROLLBACK", false}, {"BEGIN; " + makes + "; PREPARE TRANSACTION 'made'", false},
+		{"COMMIT PREPARED 'made'", true}, {drops, true}, {"CREATE SCHEMA made; COMMIT; DROP SCHEMA made", true},
+		{"CREATE TABLE made (id int); COMMIT; DROP TABLE made", false}, {"VACUUM ANALYZE", false},
+	} {
+		must(t, conn, one.text)
+		if place, err := control.Place(context.Background()); err != nil || place.MayMean != one.want {
+			t.Errorf("after %s: %v, wanted %v (%v)", one.text, place.MayMean, one.want, err)
+		}
 	}
 }
 

@@ -41,6 +41,8 @@ const (
 	unknownValue    = Refusal("a value whose meaning depends on settings, or that isn't one of its type")
 	tooLarge        = Refusal("a condition with too many or too long constants")
 	severalPlaces   = Refusal("a parameter without a type, which may get it in several places")
+	untypedLabel    = Refusal("an enumeration's label without a type, of which a cast may make a text")
+	untypedBound    = Refusal("a bound of a range without the range's own type, which may choose another function")
 )
 
 // untyped is the type of a parameter that a client declares as unknown.
@@ -347,6 +349,9 @@ func (b *binder) rangeMade(of operand) (value, error) {
 			brackets = string(its.raw)
 			break
 		}
+		if its.typ != element && !of.qualified {
+			return value{}, untypedBound
+		}
 		widened := element == keys.Int8 && isInteger(its.typ) || element == keys.Numeric && isInteger(its.typ)
 		if its.typ != 0 && its.typ != element && !widened || its.typ == keys.Int8 && element == keys.Int4 {
 			return value{}, otherTypes
@@ -399,6 +404,10 @@ func (b *binder) column(of *catalog.Column, by family) *column {
 
 // pair decides how a column is compared with values: the column as it is then read, and the type of values whose type
 // the server determines. Values of IN get one type from all of them and the column, if there are several.
+//
+// What the server's own operators are chosen by must be certain. For an enumeration there is one operator for all, and
+// its owner may make a cast to another type, and drop it: a label without a type would then be compared as a text. If
+// both sides have the enumeration's type, the statement would be an error.
 func (b *binder) pair(of *catalog.Column, values []value, in bool) (*column, uint32, error) {
 	by := familyOfColumn(of)
 	unknown := of.Type
@@ -443,6 +452,9 @@ func (b *binder) pair(of *catalog.Column, values []value, in bool) (*column, uin
 		for _, one := range values {
 			if one.typ != 0 && one.typ != of.Base {
 				return nil, 0, otherTypes
+			}
+			if one.typ == 0 && by == labelled && !in {
+				return nil, 0, untypedLabel
 			}
 		}
 	}

@@ -55,19 +55,19 @@ var documented = []struct {
 	{"tz", "2024-01-01 12:00:00+02", "tz = '2024-01-01 10:00:00Z'", yes}, {"tz", "2024-01-01 12:00:00+02", "tz < '2024-01-01 05:00:00-05:30'", yes},
 	{"tm", "24:00:00", "tm > '23:59:59.999999'", yes}, {"iv", "1 mon", "iv = '30 days'", yes}, {"iv", "24:00:00", "iv = '1 day'", yes},
 	{"iv", "-00:00:01", "iv < '00:00:00'", yes}, {"iv", "1 year", "iv = '12 mons'", yes}, {"iv", "1 year", "iv = '360 days'", yes}, {"iv", "-1 days +24:00:00", "iv = '00:00:00'", yes},
-	// Enumerations have the order of their labels.
-	{"e", "ok", "e > 'sad'", yes}, {"e", "ok", "e < 'happy'", yes}, {"e", "Z", "e < 'sad'", yes},
+	// Labels of enumerations (TestLabels has their order).
+	{"e", "ok", "e IN ('ok', 'sad')", yes}, {"e", "Z", "e NOT IN ('ok', 'sad')", yes}, {"e", "NULL", "e IN ('ok', 'sad')", null},
 	// Ranges.
 	{"r4", "[1,5)", "r4 && '[5,9)'", no}, {"r4", "[1,5]", "r4 && '[5,9)'", yes}, {"r4", "empty", "r4 && '(,)'", no}, {"r4", "(1,2)", "r4 = 'empty'", yes},
 	{"r4", "[1,5]", "r4 = '[1,6)'", yes}, {"r4", "empty", "r4 = '(1,2)'", yes}, {"r4", "[3,4)", "r4 @> '(1,2)'", yes}, {"r4", "[1,5)", "r4 @> 5", no}, {"r4", "[1,5)", "r4 @> 1", yes}, {"r4", "[1,5)", "r4 @> 'empty'", yes},
-	{"r4", "(,5)", "r4 @> -2147483648", yes}, {"r4", "[1,5)", "r4 <@ int4range(1, 4, '[]')", yes}, {"r4", "[1,5)", "r4 <@ int4range(NULL, 4)", no},
-	{"rn", "[1.0,2.0)", "rn && numrange(2, 3)", no}, {"rn", "[1.0,2.0]", "rn && numrange(2, 3)", yes}, {"rn", "(1,2)", "rn @> 1.0", no},
+	{"r4", "(,5)", "r4 @> -2147483648", yes}, {"r4", "[1,5)", "r4 <@ int4range(1, 4, '[]')", yes}, {"r4", "[1,5)", "r4 <@ int4range(NULL::int, 4)", no},
+	{"rn", "[1.0,2.0)", "rn && numrange(2.0, 3.0)", no}, {"rn", "[1.0,2.0]", "rn && numrange(2.0, 3.0)", yes}, {"rn", "(1,2)", "rn @> 1.0", no},
 	{"rd", "[2024-01-01,2024-01-02]", "rd @> '2024-01-02'::date", yes}, {"rd", "[2024-01-01,infinity]", "rd @> 'infinity'::date", yes},
 	{"rd", "[2024-01-01,infinity)", "rd @> 'infinity'::date", no}, {"rd", "[2024-01-01,)", "rd @> 'infinity'::date", yes},
 	{"rz", "[2024-01-01 10:00:00+00,2024-01-01 11:00:00+00)", "rz && '[2024-01-01 11:00:00+00,2024-01-01 12:00:00+00)'", no},
 	{"rz", "[2024-01-01 10:00:00+00,2024-01-01 11:00:00+00)", "rz && '[2024-01-01 12:30:00+02,2024-01-01 13:00:00+02)'", yes},
-	{"rt", "[2024-01-01 10:00:00,2024-01-01 11:00:00)", "rt && tsrange('2024-01-01 10:30:00', NULL)", yes},
-	{"i4", "3", "i4 <@ '[1,5)'::int4range", yes}, {"d", "2024-01-05", "d <@ daterange('2024-01-01', '2024-01-05')", no},
+	{"rt", "[2024-01-01 10:00:00,2024-01-01 11:00:00)", "rt && tsrange('2024-01-01 10:30:00'::timestamp, NULL::timestamp)", yes},
+	{"i4", "3", "i4 <@ '[1,5)'::int4range", yes}, {"d", "2024-01-05", "d <@ daterange('2024-01-01'::date, '2024-01-05'::date)", no},
 }
 
 // TestAsDocumented: the server says so, and so does the evaluation.
@@ -137,7 +137,7 @@ func TestUnknown(t *testing.T) {
 		{"b", condition.Value{}, "b AND false", no},
 		{"b", condition.Value{}, "b OR true", yes},
 		{"r4", condition.Value{}, "r4 && '[1,2)'", condition.Unknown},
-		{"e", present("gone"), "e = 'ok'", condition.Unknown}, // a label that the catalog doesn't have
+		{"e", present("gone"), "e IN ('ok', 'sad')", condition.Unknown}, // a label that the catalog doesn't have
 		{"e", present("gone"), "e IS NULL", no},
 		{"iv", present("P1D"), "iv = '1 day'", condition.Unknown}, // another IntervalStyle
 		{"iv", present("@ 1 day ago"), "iv = '1 day'", condition.Unknown},
@@ -156,6 +156,32 @@ func TestUnknown(t *testing.T) {
 			t.Errorf("%s: %v", one.where, err)
 		} else if got := its.Holds(condition.NewRow(values)); got != one.want {
 			t.Errorf("%s of %v is %v, not %v", one.where, one.value, got, one.want)
+		}
+	}
+}
+
+// TestLabels: an enumeration has the order of its labels. A label has to have the enumeration's type.
+func TestLabels(t *testing.T) {
+	_, all := open(t, "labels", oracleSchema)
+	table, _ := all.Find("", "r")
+	e, _ := table.Column("e")
+	for _, one := range []struct {
+		value, where, with string
+		want               condition.Truth
+	}{
+		{"ok", "e > $1", "sad", yes}, {"ok", "e < $1", "happy", yes}, {"Z", "e < $1", "sad", yes}, {"happy", "e <= $1", "ok", no},
+		{"ok", "$1 = e", "ok", yes}, {"ok", "e IS DISTINCT FROM $1", "ok", no}, {"ok", "e BETWEEN $1 AND $1", "Z", no},
+	} {
+		its, err := made(t, all, "SELECT * FROM r WHERE "+one.where, condition.Arguments{Parameters: [][]byte{[]byte(one.with)},
+			Types: []uint32{e.Declared}})
+		if err != nil {
+			t.Errorf("%s: %v", one.where, err)
+			continue
+		}
+		values := make([]condition.Value, len(table.Columns))
+		values[e.Number-1] = condition.Value{Text: one.value, State: condition.Present}
+		if got := its.Holds(condition.NewRow(values)); got != one.want {
+			t.Errorf("%s of %s with %s is %v, not %v", one.where, one.value, one.with, got, one.want)
 		}
 	}
 }

@@ -17,6 +17,7 @@ type operand struct {
 	listed    bool   // it is one of a list, and stands for those that were left out of the text, too
 	ofArray   bool   // it is an element of ARRAY[..]
 	made      []operand
+	qualified bool // what makes the range is named with the server's own schema
 }
 
 const (
@@ -90,7 +91,7 @@ func (r *reader) rangeMade(body tree) (operand, error) {
 	if len(names) == 1 && r.form.catalog.FunctionElsewhere(name) || len(names) > 2 || len(names) == 2 && names[0] != "pg_catalog" {
 		return operand{}, functionElse
 	}
-	its := operand{cast: rangeTypes[name]}
+	its := operand{cast: rangeTypes[name], qualified: len(names) == 2}
 	for _, arg := range args {
 		one, err := r.operand(arg)
 		if err != nil {

@@ -161,6 +161,14 @@ func TestAsTheServerDoes(t *testing.T) {
 func (o *oracle) prepare() {
 	rows(o.t, o.conn, "SET DateStyle = 'ISO, YMD'; SET TimeZone = 'UTC'; SET IntervalStyle = postgres")
 	for _, k := range o.kinds {
+		if k.typ == "mood" {
+			number, err := strconv.ParseUint(rows(o.t, o.conn, "SELECT 'mood'::regtype::oid")[0][0], 10, 32)
+			if k.oid = uint32(number); err != nil {
+				o.t.Fatal(err)
+			}
+		}
+	}
+	for _, k := range o.kinds {
 		o.by[k.column] = k
 		k.binary = map[string][]byte{}
 		for _, text := range k.values {

@@ -140,7 +140,7 @@ func TestRefusals(t *testing.T) {
 			"a type that the search path finds elsewhere"},
 		{"", "SELECT * FROM w WHERE tc = 'é'", condition.Arguments{Converts: true},
 			"a text beyond ASCII, in another encoding than the server's"},
-		{"", "SELECT * FROM w WHERE m = 'é'", condition.Arguments{Converts: true},
+		{"", "SELECT * FROM w WHERE m IN ('é', 'a')", condition.Arguments{Converts: true},
 			"a text beyond ASCII, in another encoding than the server's"},
 		// Types.
 		{"", "SELECT * FROM w WHERE a = $1", types(701), "a comparison of two types that isn't followed"},
@@ -159,10 +159,23 @@ func TestRefusals(t *testing.T) {
 		{"", "SELECT * FROM w WHERE a = $1", none, "a parameter that isn't known"},
 		{"", "SELECT * FROM w WHERE a = $1", condition.Arguments{Parameters: [][]byte{{1, 2, 3}}, Formats: []int16{1}}, badValue},
 		{"", "SELECT * FROM w WHERE a = ANY ('{{1,2}}')", none, badValue},
-		{"", "SELECT * FROM w WHERE m = 'c'", none, badValue},
+		{"", "SELECT * FROM w WHERE m IN ('a', 'c')", none, badValue},
 		{"", "SELECT $1, * FROM w WHERE a = $1", types(0), severalPlaces},
 		{"", "SELECT * FROM w WHERE a = $1 OR n = $1", types(0), severalPlaces},
 		{"", "SELECT * FROM w WHERE c = $1 OR tc = $1", types(0), severalPlaces},
+		// What a cast or a function may change that somebody makes and drops.
+		{"", "SELECT * FROM w WHERE m = 'a'", none, untypedLabel},
+		{"", "SELECT * FROM w WHERE m < 'a'", none, untypedLabel},
+		{"", "SELECT * FROM w WHERE m IN ('a')", none, untypedLabel},
+		{"", "SELECT * FROM w WHERE m OPERATOR(pg_catalog.=) 'a'", none, untypedLabel},
+		{"", "SELECT * FROM w WHERE m = ANY ('{a,b}')", none, untypedLabel},
+		{"", "SELECT * FROM w WHERE m IS DISTINCT FROM 'a'", none, untypedLabel},
+		{"", "SELECT * FROM w WHERE m BETWEEN 'a' AND 'b'", none, untypedLabel},
+		{"", "SELECT * FROM w WHERE m = $1", types(0), untypedLabel},
+		{"", "SELECT * FROM w WHERE r && int4range(1, $1)", types(0), untypedBound},
+		{"", "SELECT * FROM w WHERE r && int4range('1', 2)", none, untypedBound},
+		{"", "SELECT * FROM w WHERE r && int4range(NULL, 2)", none, untypedBound},
+		{"", "SELECT * FROM w WHERE n <@ numrange(1, 2)", none, untypedBound},
 		// Names.
 		{odd, "SELECT * FROM w WHERE a = '1'", none, "an operator that the search path finds elsewhere"},
 		{odd, "SELECT * FROM w WHERE a IN ('1', '2')", none, "an operator that the search path finds elsewhere"},
@@ -191,7 +204,34 @@ func TestRefusals(t *testing.T) {
 const (
 	badValue      = "a value whose meaning depends on settings, or that isn't one of its type"
 	severalPlaces = "a parameter without a type, which may get it in several places"
+	untypedLabel  = "an enumeration's label without a type, of which a cast may make a text"
+	untypedBound  = "a bound of a range without the range's own type, which may choose another function"
 )
+
+// TestCasts: with a cast from an enumeration, the server compares its labels as texts; with one from a range type, ranges.
+func TestCasts(t *testing.T) {
+	conn, all := open(t, "casts", `CREATE TYPE mood AS ENUM ('sad', 'happy'); CREATE TABLE w (id int PRIMARY KEY, m mood, r int4range, a int);`)
+	const label, span = "SELECT * FROM w WHERE m IN ('sad', 'happy')", "SELECT * FROM w WHERE r = '[1,2]'"
+	const among, number = "SELECT * FROM w WHERE a <@ '[1,2]'::int4range", "SELECT * FROM w WHERE a = 1"
+	for _, one := range []struct {
+		made    string
+		refuses map[string]bool
+	}{
+		{"", map[string]bool{}},
+		{"CREATE CAST (mood AS text) WITH INOUT AS IMPLICIT", map[string]bool{label: true}},
+		{"CREATE CAST (int4range AS text) WITH INOUT AS IMPLICIT", map[string]bool{label: true, span: true, among: true}},
+	} {
+		if one.made != "" {
+			rows(t, conn, one.made)
+		}
+		all = load(t, conn)
+		for _, text := range []string{label, span, among, number} {
+			if _, err := made(t, in(t, all, `["public"]`), text, condition.Arguments{}); (err != nil) != one.refuses[text] {
+				t.Errorf("after %s: %s: %v", one.made, text, err)
+			}
+		}
+	}
+}
 
 // TestTaken: what is like something that is refused, and isn't.
 func TestTaken(t *testing.T) {
@@ -220,7 +260,7 @@ func TestTaken(t *testing.T) {
 		{"", "SELECT * FROM w WHERE a IN (1::int8)", condition.Arguments{Constants: []string{"5, 6"}}, "a constant in an unknown form"},
 		{"", "SELECT * FROM w WHERE tc IN ('x')", condition.Arguments{Constants: []string{`$1, E'\'', $q$d$q$`},
 			Parameters: [][]byte{[]byte("p")}}, "w WHERE tc IN ('p', '''', 'd')"},
-		{"", "SELECT * FROM w WHERE r && int4range(1, $1, '[]')", condition.Arguments{Parameters: [][]byte{[]byte("5")}},
+		{"", "SELECT * FROM w WHERE r && int4range(1, $1, '[]')", condition.Arguments{Parameters: [][]byte{[]byte("5")}, Types: []uint32{23}},
 			"w WHERE r && '[1,6)'"},
 		{"", "SELECT * FROM w WHERE a = $1 AND id = $1", condition.Arguments{Parameters: [][]byte{[]byte("5")}}, "w WHERE a = 5 AND id = 5"},
 		{"", "SELECT $1::int, * FROM w WHERE a = $1", condition.Arguments{Parameters: [][]byte{[]byte("5")}, Types: []uint32{23}},
@@ -235,8 +275,8 @@ func TestTaken(t *testing.T) {
 		{`["pg_catalog", "public"]`, "SELECT * FROM w WHERE a = 1", condition.Arguments{}, "w WHERE a = 1"},
 		{"", "SELECT * FROM w WHERE 1 = 1 AND NOT false AND a = 1", condition.Arguments{}, "w WHERE 1 = 1 AND NOT false AND a = 1"},
 		{"", "SELECT * FROM w WHERE y = '\\x61' AND iv = '1 day'", condition.Arguments{}, `w WHERE y = '\x61' AND iv = '1 day'`},
-		{"", "SELECT * FROM w WHERE tz >= '2024-01-01 10:00+02' AND m = 'b'", condition.Arguments{},
-			"w WHERE tz >= '2024-01-01 08:00:00+00' AND m = 'b'"},
+		{"", "SELECT * FROM w WHERE tz >= '2024-01-01 10:00+02' AND m IN ('a', 'b')", condition.Arguments{},
+			"w WHERE tz >= '2024-01-01 08:00:00+00' AND m IN ('a', 'b')"},
 	} {
 		path := one.path
 		if path == "" {

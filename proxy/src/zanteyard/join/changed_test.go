@@ -21,6 +21,7 @@ func TestAskedWhileDefinitionsChanged(t *testing.T) {
 		{"another table", func(c *core) { c.forgetTables(map[record.Relation]bool{2: true}) }, false},
 		{"the table", func(c *core) { c.forgetTables(map[record.Relation]bool{1: true}) }, true},
 		{"an operator", func(c *core) { c.forgetMeanings() }, true},
+		{"perhaps an operator", func(c *core) { (&gate{}).verify(Place{MayMean: true}, c) }, true},
 	} {
 		for _, reported := range []bool{false, true} { // before the change is seen
 			row := condition.NewRow(nil)

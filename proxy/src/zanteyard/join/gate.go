@@ -67,6 +67,9 @@ func (g *gate) verify(place Place, to *core) {
 	if place.Remade {
 		to.forgetMeanings()
 	}
+	if place.MayMean {
+		to.questions.remade = to.now
+	}
 	if shows, ok := snapshotOf(place.Shows); ok && !place.Unsure && place.At >= g.verified {
 		g.verified, g.used, g.shows = place.At, place.Used, shows
 	}

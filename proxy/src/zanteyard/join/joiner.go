@@ -37,6 +37,9 @@ type Place struct {
 	Rewritten []Rewritten
 	// Remade means that operators, casts or functions have been made or dropped by names that conditions use.
 	Remade bool
+	// MayMean says that some operator or schema may have been made, changed or dropped since the last place, though all may
+	// be as it was: names of operators may have meant something else for a while.
+	MayMean bool
 	// Used is how many tables were looked at (record.Commit). Unsure: names may have changed once more since.
 	Used   uint64
 	Unsure bool

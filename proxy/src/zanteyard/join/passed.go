@@ -194,10 +194,11 @@ func (c *core) resolveAsks(e *entry, to *resolution) bool {
 }
 
 // mayHaveChanged reports whether the transaction may have begun before it was seen that a condition may have meant
-// something else, or that some rows were hidden.
+// something else, or that some rows were hidden. Who began before the audit did may have begun before the audit in front
+// of it saw that.
 func (c *core) mayHaveChanged(q *question, e *entry) bool {
 	began, _ := span(&e.its)
-	return c.isFromBefore(q.relation, &e.its) || !began.After(c.questions.remade)
+	return c.isFromBefore(q.relation, &e.its) || !began.After(c.questions.remade) || began.Before(c.began)
 }
 
 // hidesOwn reports whether the statement may have seen a version of its own transaction's that isn't known as one.

@@ -98,13 +98,36 @@ func Prepare(ctx context.Context, conn *pgconn.PgConn, name string, text Text) e
 	return err
 }
 
-// AskPrepared runs a prepared text with parameters, and returns its rows as texts.
-func AskPrepared(ctx context.Context, conn *pgconn.PgConn, name string, parameters ...string) ([][]string, error) {
-	values := make([][]byte, len(parameters))
-	for i, one := range parameters {
-		values[i] = []byte(one)
+// Prepared is a prepared text by its name, with its parameters.
+type Prepared struct {
+	Name       string
+	Parameters []string
+}
+
+// AskPrepared runs prepared texts in one transaction and one round trip, and returns the rows of each as texts.
+func AskPrepared(ctx context.Context, conn *pgconn.PgConn, its ...Prepared) ([][][]string, error) {
+	batch := &pgconn.Batch{}
+	for _, one := range its {
+		values := make([][]byte, len(one.Parameters))
+		for i, value := range one.Parameters {
+			values[i] = []byte(value)
+		}
+		batch.ExecPrepared(one.Name, values, nil, nil)
 	}
-	return rowsOf(conn.ExecPrepared(ctx, name, values, nil, nil).Read())
+	results, err := conn.ExecBatch(ctx, batch).ReadAll()
+	if err != nil {
+		return nil, err
+	}
+	all := make([][][]string, len(results))
+	for i, one := range results {
+		if all[i], err = rowsOf(one); err != nil {
+			return nil, err
+		}
+	}
+	if len(all) != len(its) {
+		return nil, fmt.Errorf("the server answered %d of %d prepared statements", len(all), len(its))
+	}
+	return all, nil
 }
 
 func rowsOf(its *pgconn.Result) ([][]string, error) {

@@ -19,6 +19,7 @@ const (
 	tooManyAsks  = "more conditions of one transaction than are kept"
 	unclearRow   = "a row whose key isn't known"
 	undoneWrite  = "asked after a write that ROLLBACK TO may have undone"
+	unclearEnd   = "a transaction whose end isn't known"
 	namesUnsure  = "an UPDATE or DELETE of whose names it isn't certain what they refer to"
 )
 
@@ -45,7 +46,7 @@ func (s *Session) asksBy(st *statement, with condition.Arguments) *asking {
 	if !st.plan.Follows() {
 		return nil
 	}
-	with.Converts, with.Temporary = s.converts(), !shareable(s.trust.signature)
+	with.Converts, with.Temporary = s.converts(), s.trust.hasTemporary()
 	with.Escapes = st.behind || s.somethingRuns()
 	it := &asking{from: s.sent, writes: st.plan.Kind == plan.Write}
 	var err error
@@ -62,7 +63,7 @@ func (s *Session) asksUnchanged(st *statement, with condition.Arguments) *asking
 		return nil
 	}
 	t := &s.trust
-	if t.doubt || !t.asks || !t.here || t.block.isPrivate || t.pooled || !shareable(t.signature) {
+	if t.doubt || !t.asks || !t.here || t.block.isPrivate || t.pooled || t.hasTemporary() {
 		t.wanted = true
 		return nil
 	}
@@ -160,6 +161,16 @@ func (t *transaction) undoAsks() {
 	for i := range t.Asks {
 		if t.Asks[i].Wrote {
 			t.Asks[i] = record.Ask{Why: undoneWrite}
+		}
+	}
+}
+
+// dropAsks leaves out all that was asked by conditions, since the transaction may end later than it is reported: what it
+// changed of operators itself wouldn't show by then.
+func (t *transaction) dropAsks() {
+	for i := range t.Asks {
+		if t.Asks[i].Why == "" {
+			t.Asks[i] = record.Ask{Why: unclearEnd}
 		}
 	}
 }

@@ -81,6 +81,8 @@ func TestAsks(t *testing.T) {
 		{name: "a write that is undone", texts: []string{"BEGIN", "SELECT v FROM t WHERE v < 30", "SAVEPOINT a",
 			"UPDATE t SET w = 'x' WHERE id = 20", "SELECT v FROM t WHERE v < 20", "ROLLBACK TO a", "SELECT v FROM t WHERE v < 10", "COMMIT"},
 			want: "t WHERE v < 30: 1,2; not: asked after a write that ROLLBACK TO may have undone; t WHERE v < 10:  wrote"},
+		{name: "an end that isn't known", texts: []string{"BEGIN", "SELECT v FROM t WHERE v < 30", "UPDATE t SET w = 'x' WHERE id = 20",
+			"PREPARE TRANSACTION 'asks'", "ROLLBACK PREPARED 'asks'"}, want: "not: a transaction whose end isn't known"},
 		{name: "an UPDATE", texts: []string{"BEGIN", "UPDATE t SET w = 'z' WHERE v < 20", "COMMIT"}, want: "t WHERE v < 20:  wrote"},
 		{name: "one by itself", texts: []string{"UPDATE t SET w = 'z' WHERE v < 20"}, want: "t WHERE v < 20:  wrote"},
 		{name: "a DELETE of nothing", texts: []string{"DELETE FROM t WHERE v = -7"}, want: "t WHERE v = -7: "},

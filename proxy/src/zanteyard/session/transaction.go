@@ -179,6 +179,9 @@ func (s *Session) finish(outcome record.Outcome) {
 		if t.MayHaveWritten = t.Number == 0 && (t.MayHaveWritten || t.wrote); t.MayHaveWritten {
 			t.Unnumbered = t.unnumbered()
 		}
+		if outcome == record.Unclear {
+			t.dropAsks()
+		}
 		s.report(&t.Transaction)
 	}
 	s.set(outcome)

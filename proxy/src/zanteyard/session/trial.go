@@ -14,6 +14,7 @@ import (
 type trial struct {
 	began              time.Time
 	generation, doubts uint64
+	others             uint64 // what trust counted
 	back               plan.Parts
 	uses               []*use
 	signature          []byte
@@ -36,8 +37,9 @@ type trial struct {
 // try appends a trial's messages, and records what is expected for them.
 func (s *Session) try(out []byte) []byte {
 	t := &s.trust
-	w := &trial{began: clock(), generation: t.generation, doubts: t.doubts, back: t.back, levels: t.levels, mark: t.mark,
-		done: make(chan struct{})}
+	w := &trial{began: clock(), generation: t.generation, doubts: t.doubts, others: t.others, back: t.back, levels: t.levels,
+		mark: t.mark, done: make(chan struct{})}
+	t.resettle, t.compared = false, w.began
 	s.trial = w
 	if s.status == 'T' {
 		w.inBlock, w.ends, w.doubted, w.local = true, t.block.ends, t.doubt, t.block.local
@@ -277,7 +279,7 @@ func (s *Session) compares(w *trial) {
 		t.moves(w.signature, w.path, isPrivate)
 		t.asks = false
 	}
-	t.signature, t.doubt = w.signature, false
+	t.signature, t.doubt, t.settled = w.signature, false, w.others
 	b.isPrivate, b.local = isPrivate, w.inBlock && (w.local || w.doubted || !isSame)
 	if w.inBlock {
 		return

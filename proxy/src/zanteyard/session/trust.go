@@ -15,8 +15,11 @@ type trust struct {
 	newest      uint64 // of all generations
 	era         uint64 // what the proxy prepared in an older one may be something else by now
 	others      uint64 // counts what may have run any statement: what anybody prepared before may be something else
-	foreign     bool   // others' statements may have run in the transaction, so that deferred triggers may, too
-	begun       bool   // it is a block, which a Sync doesn't end
+	settled     uint64 // others, when the signature was last compared: no temporary object can have been made since
+	resettle    bool   // something wasn't followed since others have run: the signature is worth comparing again
+	compared    time.Time
+	foreign     bool // others' statements may have run in the transaction, so that deferred triggers may, too
+	begun       bool // it is a block, which a Sync doesn't end
 	// declared are the cursors of the transaction, as it was sent, that don't run what others have made.
 	declared map[string]bool
 	catalog  uint64 // the catalog's generation, as last looked at
@@ -153,5 +156,16 @@ func (t *trust) unsureLevel() {
 // work reports whether there is something to try at an idle moment.
 func (t *trust) work() bool {
 	return !t.broken && !t.taken && !t.elsewhere && (len(t.queue) > 0 || t.wanted && (t.doubt || !t.asks || t.unsure || !t.here) ||
-		len(t.orphans) > mostOrphans)
+		len(t.orphans) > mostOrphans || t.resettle && clock().Sub(t.compared) > resettlePause)
+}
+
+// resettlePause is the shortest time between two comparisons of the signature that are made only since others have run.
+const resettlePause = 100 * time.Millisecond
+
+// hasTemporary reports whether the connection may have temporary objects. What others have made may have made one since
+// the signature was last compared, and drop it before the next time.
+func (t *trust) hasTemporary() bool {
+	stale := t.others != t.settled
+	t.resettle = t.resettle || stale
+	return stale || !shareable(t.signature)
 }

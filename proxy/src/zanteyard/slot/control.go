@@ -25,7 +25,7 @@ type Control struct {
 
 	lock     sync.Mutex
 	conn     *pgconn.PgConn
-	prepared bool  // placeSQL is prepared on conn
+	prepared bool  // placeSQL and analysedSQL are prepared on conn
 	mark     int64 // of the connection that reads the slot; 0 before that
 	reloaded time.Time
 
@@ -33,6 +33,8 @@ type Control struct {
 	changed   []record.Relation
 	rewritten []join.Rewritten
 	remade    bool
+	mayMean   bool
+	analysed  string // what analysedSQL returned last
 }
 
 // NewControl connects, and reads the catalog.
@@ -103,13 +105,13 @@ func (c *Control) Follow(ctx context.Context, mark int64) error {
 	return sees(ctx, c.conn, mark)
 }
 
-// where asks where the log stands, and for the stamps of these tables. It is called so often that the statement is
-// worth preparing.
-func (c *Control) where(ctx context.Context, tables string) ([][]string, error) {
+// where asks where the log stands, for the stamps of these tables, and when the server last analysed analysedSQL. It is
+// called so often that the statements are worth preparing.
+func (c *Control) where(ctx context.Context, tables string) (place [][]string, analysed string, err error) {
 	c.lock.Lock()
 	defer c.lock.Unlock()
 	if err := c.connect(ctx); err != nil {
-		return nil, err
+		return nil, "", err
 	}
 	if !c.prepared {
 		text := placeSQL
@@ -117,19 +119,33 @@ func (c *Control) where(ctx context.Context, tables string) ([][]string, error) 
 			text = valuesPlaceSQL
 		}
 		if err := own.Prepare(ctx, c.conn, placeName, text); err != nil {
-			return nil, err
+			return nil, "", err
+		}
+		if err := own.Prepare(ctx, c.conn, analysedName, analysedSQL); err != nil {
+			return nil, "", err
 		}
 		c.prepared = true
 	}
-	rows, err := own.AskPrepared(ctx, c.conn, placeName, tables)
+	its, err := own.AskPrepared(ctx, c.conn, own.Prepared{Name: placeName, Parameters: []string{tables}},
+		own.Prepared{Name: analysedName})
 	if err != nil {
-		// Somebody, such as a pooler, may have dropped it: the next question prepares it again, on another connection.
+		// Somebody, such as a pooler, may have dropped one: the next question prepares them again, on another connection.
 		c.conn.Close(ctx)
+		return nil, "", err
 	}
-	return rows, err
+	if len(its[1]) != 1 || len(its[1][0]) != 1 || its[1][0][0] == "" {
+		return nil, "", errForm
+	}
+	return its[0], its[1][0][0], nil
 }
 
-const placeName = "zanteyard.place"
+const placeName, analysedName = "zanteyard.place", "zanteyard.analysed"
+
+// analysedSQL returns when the server has analysed it: the constant is read then, not when the statement is run. A
+// prepared statement is analysed again at its next run after any transaction has committed that made, changed or dropped
+// an operator or a schema. So an operator that was made and dropped between two questions is noticed, though nothing is
+// left of it in the catalog. It names no table, whose own changes would count as well.
+var analysedSQL = own.SQL("SELECT 'now'::pg_catalog.timestamptz")
 
 // one returns the only value of a statement.
 func (c *Control) one(ctx context.Context, text own.Text) (string, error) {
@@ -148,7 +164,7 @@ func (c *Control) one(ctx context.Context, text own.Text) (string, error) {
 func (c *Control) Place(ctx context.Context) (join.Place, error) {
 	place, err := c.place(ctx)
 	if err == nil {
-		c.changed, c.rewritten, c.remade = nil, nil, false
+		c.changed, c.rewritten, c.remade, c.mayMean = nil, nil, false, false
 	}
 	return place, err
 }
@@ -156,10 +172,12 @@ func (c *Control) Place(ctx context.Context) (join.Place, error) {
 func (c *Control) place(ctx context.Context) (join.Place, error) {
 	for again := 0; ; again++ {
 		oids, used := c.tables.usedText()
-		rows, err := c.where(ctx, oids)
+		rows, analysed, err := c.where(ctx, oids)
 		if err != nil {
 			return join.Place{}, err
 		}
+		c.mayMean = c.mayMean || analysed != c.analysed
+		c.analysed = analysed
 		if len(rows) != 1 || len(rows[0]) < 4 {
 			return join.Place{}, errForm
 		}
@@ -176,10 +194,10 @@ func (c *Control) place(ctx context.Context) (join.Place, error) {
 		switch {
 		case !remade && rows[0][1] == c.tables.usedStamp() && !(c.tables.Missing() && c.mayReload()):
 			place.Rewritten = append(c.rewritten, c.tables.versions(rows[0][3])...)
-			place.Remade = c.remade
+			place.Remade, place.MayMean = c.remade, c.mayMean
 			return place, nil
 		case again == mostReloads: // somebody changes one table after the other: nothing is verified for now
-			place.Unsure, place.Rewritten, place.Remade = true, c.rewritten, c.remade
+			place.Unsure, place.Rewritten, place.Remade, place.MayMean = true, c.rewritten, c.remade, c.mayMean
 			return place, nil
 		}
 		more, also, err := c.reload(ctx)
