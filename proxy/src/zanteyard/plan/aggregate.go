@@ -37,9 +37,7 @@ func (h *hiding) lists(it *item) {
 	for _, column := range it.table.Key {
 		names = append(names, quote(column.Name))
 	}
-	if !h.sole {
-		h.proves(it.written, append(h.shares(it), names...))
-	}
+	h.isSure(it, append(h.shares(it), names...))
 	row, long := []string{h.of(it, "xmin"), h.of(it, "tableoid")}, []string(nil)
 	for i, column := range it.table.Key {
 		text := keys.Expression(column.Type, h.of(it, names[i]), it.converts)
@@ -48,7 +46,7 @@ func (h *hiding) lists(it *item) {
 			long = append(long, text)
 		}
 	}
-	row = append(row, noRow(it.name))
+	row = append(row, h.of(it, rowOf))
 	condition := "pg_catalog.clock_timestamp() OPERATOR(pg_catalog.<) (pg_catalog.statement_timestamp() " +
 		"OPERATOR(pg_catalog.+) '" + strconv.Itoa(int(listedFor.Seconds())) + "s'::pg_catalog.interval)"
 	if long != nil {

@@ -218,7 +218,10 @@ func (f *fromClause) enter(d *derived) {
 		}
 		with, several = c.before, c.refs > 1
 	}
-	inner := &fromClause{maker: m, plan: f.plan, with: with, ordered: true, unlisted: !m.catalog.ListsAll(), word: nowhere}
+	inner := &fromClause{maker: m, plan: f.plan, with: with, unlisted: !m.catalog.ListsAll(), word: nowhere}
+	if f.lists {
+		inner.unlisted = f.unlisted
+	}
 	inner.readPart(d.query, func(target string) bool { return several || f.uses(d, target) })
 	_, first := only(d.query.list("targetList")[0])
 	if at := m.tokenAt(first.number("location")); at >= 0 {
@@ -283,8 +286,9 @@ func (f *fromClause) readPart(query node, uses func(column string) bool) {
 	f.read(rest, "fromClause")
 }
 
-// passes adds a subquery's hidden columns to its own, and returns its tables as the query around it knows them.
-func (d *derived) passes() (outside []*item) {
+// passes adds a subquery's hidden columns to its own, and returns its tables as the query around it knows them. If it lists
+// their rows, it needs their type.
+func (d *derived) passes(listed bool) (outside []*item) {
 	if c := d.common; c != nil && c.passed != nil {
 		for _, it := range c.passed {
 			outside = append(outside, it.outside(d, it.passed, it.named))
@@ -295,9 +299,9 @@ func (d *derived) passes() (outside []*item) {
 	its := f.found
 	for _, below := range f.derived {
 		if below.inner != nil && !below.carried {
-			its = append(its[:len(its):len(its)], below.passes()...)
+			its = append(its[:len(its):len(its)], below.passes(listed)...)
 		} else if below.inner != nil { // the star has them, under the same names
-			for _, it := range below.passes() {
+			for _, it := range below.passes(listed) {
 				outside = append(outside, it.outside(d, it.passed, it.named))
 			}
 		}
@@ -307,6 +311,9 @@ func (d *derived) passes() (outside []*item) {
 		own := []string{"xmin", "tableoid"}
 		for _, column := range it.table.Key {
 			own = append(own, quote(column.Name))
+		}
+		if it.listed = listed; listed {
+			own = append(own, rowOf)
 		}
 		for _, column := range own {
 			f.maker.passed++

@@ -35,10 +35,24 @@ func (m *maker) safeFrom(value any) bool {
 	switch kind, body := only(value); kind {
 	case "", "RangeVar":
 		return true
+	case "RangeSubselect":
+		return m.safeDerived(body.node("subquery").node("SelectStmt"))
 	case "JoinExpr":
 		return m.safeFrom(body["larg"]) && m.safeFrom(body["rarg"]) && m.safe(body["quals"])
 	}
 	return false
+}
+
+// safeDerived is about a subquery in FROM. With a LIMIT, which rows it returns is up to the plan.
+func (m *maker) safeDerived(query node) bool {
+	for name := range query {
+		switch name {
+		case "targetList", "fromClause", "whereClause", "op", "limitOption":
+		default:
+			return false
+		}
+	}
+	return !query.has("larg") && m.safe(targets(query)) && m.safeFrom(query["fromClause"]) && m.safe(query["whereClause"])
 }
 
 // safe reports whether an expression of rows, or each of a list, is certainly no error. A constant, a parameter and the time

@@ -50,16 +50,27 @@ func (h *hiding) reads(it *item) {
 }
 
 func (h *hiding) system(it *item, names []string) {
-	if it.passed != nil && it.named || it.passed == nil && !h.sole {
-		h.proves(it.written, names)
-	}
+	h.isSure(it, names)
 	h.value(h.of(it, "xmin"))
 }
 
+// isSure adds the query that is refused if a table that is named hasn't these columns.
+func (h *hiding) isSure(it *item, names []string) {
+	if it.passed != nil && it.named || it.passed == nil && !h.sole {
+		h.proves(it.written, names)
+	}
+}
+
+// rowOf stands for a NULL of the type of a table's rows.
+const rowOf = "*"
+
 // of names a column of a table, or the one by which a subquery passes it on.
 func (h *hiding) of(it *item, column string) string {
-	if it.passed != nil {
+	switch {
+	case it.passed != nil:
 		column = it.passed[column]
+	case column == rowOf:
+		return noRow(it.name)
 	}
 	if h.sole {
 		return column

@@ -46,7 +46,7 @@ func (m *maker) selects(p *Plan, body node, start, end int) {
 		return
 	}
 	f.unsorted = lists && body.has("groupClause") && !m.sortsGroups(body, f)
-	f.open(body, !lists)
+	f.open(body, !lists || !body.has("distinctClause"))
 	f.closeWith()
 	found := f.groups()
 	if len(found) == 0 && !f.opens() {
@@ -56,6 +56,7 @@ func (m *maker) selects(p *Plan, body node, start, end int) {
 		p.leaveOut("unknown form of statement")
 		return
 	}
+	p.Counts = lists && f.opens()
 	for _, source := range found {
 		p.Counts = p.Counts || source.listed
 	}
@@ -82,7 +83,7 @@ func (f *fromClause) result(h *hiding, body node, found []*item, word int) {
 			d.inner.isNullable(d.at.nullable)
 			d.inner.result(&hiding{sole: d.inner.items == 1}, d.query, d.inner.found, d.inner.word)
 		} else {
-			found = append(found[:len(found):len(found)], d.passes()...)
+			found = append(found[:len(found):len(found)], d.passes(f.lists)...)
 		}
 	}
 	if len(found) == 0 {

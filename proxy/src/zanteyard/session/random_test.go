@@ -221,6 +221,7 @@ func shapes() []shape {
 			"SELECT w.id, w.tag, v.a, v.b, v.tag FROM w LEFT JOIN v ON v.a = w.id ORDER BY w.id", key, both},
 		{"SELECT id, tag, 'parts' AS t FROM parts WHERE id < $1 UNION ALL SELECT id, tag, 'one' FROM one WHERE n >= $1 ORDER BY 3, 1", key,
 			func(row []string) []seen { return []seen{{row[2], row[0], row[1]}} }},
+		{"SELECT count(*), string_agg(s.id || ' ' || s.tag, ',') FROM (SELECT n, tag, id FROM one WHERE id < $1) s", key, listed("one", 1, 1)},
 		{"UPDATE one SET tag = $1 WHERE id = $2", tagKey, none},
 		{"UPDATE one SET tag = $1, n = n + 1 WHERE id = $2 RETURNING n", tagKey, none},
 		{"UPDATE two SET tag = $1 WHERE a = $2", tagKey, none},
