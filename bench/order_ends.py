@@ -7,8 +7,11 @@ No auditor is asked. A plain one (plain_verdicts.py, plain_snapshots.py) takes i
 logged, in turns of a few transactions, finds orders by trial, and forgets what its cuts name. Each
 order that explains what is left, with those of what was forgotten before it, has to be an order of
 the whole history: one in which each read finds the last writer, or, if transactions are split, one
-of begins and commits that is snapshot isolation. Some order explains what is left exactly if the
-whole history has one. Each of these is checked by the definition, over the whole history.
+of begins and commits that is snapshot isolation. Another order of what is left, which doesn't
+explain it, must not be one of the whole history in this way. Some order explains what is left
+exactly if the whole history has one. What was forgotten are the first transactions of each session,
+in an order that meets all their reads; each key's last writer there is the one that is kept. Each
+of these is checked by the definition, over the whole history.
 """
 import argparse
 import collections
@@ -18,6 +21,7 @@ from plain_snapshots import EVENTS, Whole, check_events, has_events, split, whol
 from plain_verdicts import INIT, Parts, Relation, cut_of, has_order
 
 ORDERS = 3  # of one round that are checked
+OTHERS = 6  # orders of one round that need not explain anything
 TRIALS = 4000  # of transactions put next, in a search for orders
 FRONTS = 20000  # that may be tried where it is asked whether there is any order
 
@@ -75,6 +79,33 @@ def orders_of(parts, dice):
 
     put_next([0] * len(counts), dict(parts.base))
     return found
+
+
+def explains_rest(parts, order):
+    """Whether the order of all that is left explains it, by the definition."""
+    last = dict(parts.base)
+    for session, number in order:
+        reads, writes = parts.remaining[session][number - parts.gone[session]]
+        if not all(last.get(key, INIT) == source or parts.is_pending(source)
+                   for key, source in reads):
+            return False
+        last.update(dict.fromkeys(writes, (session, number)))
+    return True
+
+
+def others_of(parts, orders, dice):
+    """Orders of all that is left, session by session as they have to be: some at random, and some
+    that are those with two neighbours of two sessions exchanged."""
+    for _ in range(OTHERS):
+        turns = [session for session, txns in enumerate(parts.remaining) for _ in txns]
+        dice.shuffle(turns)
+        if orders and dice.random() < 0.7:
+            turns = [session for session, _ in dice.choice(orders)]
+            for _ in range(dice.randint(1, 2)):
+                place = dice.randrange(max(1, len(turns) - 1))
+                turns[place : place + 2] = turns[place : place + 2][::-1]
+        yield [(session, parts.gone[session] + turns[:place].count(session))
+               for place, session in enumerate(turns)]
 
 
 def explains(history, order):
@@ -163,6 +194,9 @@ class Audit:
             self._check(order)
         self.tally["rounds"] += 1
         self._check_verdict()
+        self._check_past()
+        for order in others_of(self.parts, orders, self.store.dice):
+            self._check_other(order)
         if orders:
             cut = cut_of(self.parts, Relation(self.parts))
             self.held = (cut, self.store.dice.choice(orders)) if cut else None
@@ -176,6 +210,37 @@ class Audit:
             return
         check_events(whole_of(self.parts), events_of(order))
         assert is_snapshot_order(self.history, events_of(whole)), (self.history, self.past, order)
+
+    def _check_other(self, order):
+        """An order explains what is left exactly if, behind the past, it is one of the whole."""
+        explained = explains_rest(self.parts, order)
+        self.tally["others"] += 1
+        self.tally["others that explain"] += explained
+        whole = self.past + order
+        assert explains(self._held_whole(), whole) == explained, (self.history, self.past, order)
+        if self.store.is_split:
+            assert is_snapshot_order(self.history, events_of(whole)) == explained, (
+                self.history, self.past, order)
+
+    def _held_whole(self):
+        """The whole history as the auditor would hold it: as it is, or split."""
+        if not self.store.is_split:
+            return self.history
+        return [[half for number, txn in enumerate(txns)
+                 for half in halves_of(session, number, txn)]
+                for session, txns in enumerate(self.history)]
+
+    def _check_past(self):
+        whole, last = self._held_whole(), {}
+        for session, number in self.past:
+            reads, writes = whole[session][number]
+            assert all(last.get(key, INIT) == source for key, source in reads)
+            last.update(dict.fromkeys(writes, (session, number)))
+        assert last == self.parts.base, (self.history, self.past, self.parts.base)
+        for session, mark in enumerate(self.parts.gone):
+            its = [number for each, number in self.past if each == session]
+            assert its == list(range(mark)), (self.history, self.past)
+            assert self.parts.remaining[session] == whole[session][mark:]
 
     def _check_verdict(self):
         sessions = len(self.history)

@@ -1,0 +1,5 @@
+mod Arriving
+mod Cut
+mod Lists
+mod Looks
+mod Orders
