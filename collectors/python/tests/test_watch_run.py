@@ -18,6 +18,8 @@ from zanteyard.core.errors import ProgramMissingError
 from zanteyard.program._binaries import PROGRAM
 from zanteyard.promises._kinds import SNAPSHOT
 from zanteyard.trial.postgres_server import PostgresServer, program
+from zanteyard.watch.outcome._ending import _reasons
+from zanteyard.watch.outcome._totals import Total, Totals
 from zanteyard.watch.postgres._database import Database, DatabaseError
 from zanteyard.watch.proxy._proxy_program import build_of, find_proxy, proxy_path
 from zanteyard.watch._run import Plan, Run
@@ -119,8 +121,8 @@ class Runs(InAFolder):
                 "  not checked",
                 f"             3 transactions  {TOLD_APART}",
                 "             7 SELECTs       an aggregate: --aggregates, or select the rows",
-                "             3 SELECTs       it found no row: ask by a whole primary key, at "
-                "repeatable read or serializable",
+                "             3 SELECTs       it found no row: --conditions, or ask by a whole "
+                "primary key at repeatable read or serializable",
                 f"             3 writes        {TOLD_APART}",
                 "             4 rows read     its version is unknown: it was written before the audit, "
                 "or by what isn't audited",
@@ -130,6 +132,27 @@ class Runs(InAFolder):
                 "         times first    what wasn't seen, then the statement",
                 f"             7 {told[-2].split()[1]} an aggregate",
                 "                          SELECT count(*) FROM orders WHERE customer = $1",
+            ],
+        )
+
+    def test_what_helps(self):
+        """Only what helps here: a write that found no row isn't checked in any case, and an outcome
+        isn't unknown for one reason alone."""
+        found_no_row, unknown = {"it found no row": 2}, {"its outcome is unknown": 1}
+        totals = Totals(
+            transactions=Total(1, not_checked=unknown),
+            selects=Total(2, not_checked=found_no_row),
+            writes=Total(2, not_checked=found_no_row),
+        )
+        self.assertEqual(
+            [*_reasons(totals)],
+            [
+                "not checked",
+                "           1 transactions  its outcome is unknown: its connection was lost during "
+                "COMMIT, it was prepared for COMMIT PREPARED, or a procedure committed a part of it",
+                "           2 SELECTs       it found no row: --conditions, or ask by a whole primary "
+                "key at repeatable read or serializable",
+                "           2 writes        it found no row",
             ],
         )
 

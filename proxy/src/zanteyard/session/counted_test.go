@@ -52,6 +52,35 @@ func TestWhatIsntLookedAtIsCounted(t *testing.T) {
 	}
 }
 
+// TestWritesOfNoRow: a write that changed no row is counted by what wasn't seen of it, or as one that found no row.
+func TestWritesOfNoRow(t *testing.T) {
+	needServer(t)
+	sql(t, fill)
+	for text, want := range map[string]string{
+		"INSERT INTO t VALUES (3, 0) ON CONFLICT DO NOTHING":                 "a conflicting row that isn't written",
+		"INSERT INTO t SELECT id, 0 FROM t WHERE id = 999":                   "what INSERT selects",
+		"UPDATE t SET v = 0 WHERE id = 999":                                  record.FoundNoRow,
+		"DELETE FROM t WHERE id = 999":                                       record.FoundNoRow,
+		"INSERT INTO t VALUES (3, 0) ON CONFLICT (id) DO UPDATE SET v = t.v": "",
+	} {
+		p := through(t, "postgres", nil)
+		p.warm(text)
+		p.sink.take()
+		p.query("BEGIN")
+		p.query(text)
+		p.query("COMMIT")
+		its := p.sink.take()
+		if len(its) != 1 {
+			t.Errorf("%s: %d transactions", text, len(its))
+			continue
+		}
+		if did := its[0].Did; want == "" && (did.Writes != 1 || len(did.Left) != 0) ||
+			want != "" && (len(did.Left) != 1 || did.Left[0] != record.Left{Reason: want, Writes: 1}) {
+			t.Errorf("%s: %+v", text, did)
+		}
+	}
+}
+
 // TestUnauditedExecute: while nothing is audited, what EXECUTE has run counts as a transaction, with arguments or without.
 func TestUnauditedExecute(t *testing.T) {
 	needServer(t)

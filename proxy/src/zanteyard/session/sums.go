@@ -44,7 +44,7 @@ func (s *Session) sums(p *plan.Plan, e *expectation, tag []byte, reason string) 
 	case verb == "SELECT":
 		s.sumSelect(inner, e, reason, uint64(e.rows))
 	case writes(verb), inner.Kind == plan.Write:
-		s.sumWrite(inner, e, reason, n)
+		s.sumWrite(inner, e, reason, n, verb)
 	default:
 		s.tx.Did.Others++
 	}
@@ -183,7 +183,7 @@ func (s *Session) sumSelect(p *plan.Plan, e *expectation, reason string, n uint6
 	}
 }
 
-func (s *Session) sumWrite(p *plan.Plan, e *expectation, reason string, n uint64) {
+func (s *Session) sumWrite(p *plan.Plan, e *expectation, reason string, n uint64, verb string) {
 	d := &s.tx.Did
 	d.Written += n
 	left, inPart := "", false
@@ -193,6 +193,8 @@ func (s *Session) sumWrite(p *plan.Plan, e *expectation, reason string, n uint64
 		}
 	}
 	switch {
+	case n == 0 && verb == "INSERT" && left != "": // it found a row in its place, or nothing to insert
+		inPart = false
 	case n == 0 && p.Kind == plan.Write && !p.MayWriteUnseen:
 		left, inPart = foundNoRow, false
 	case left == "" && len(p.Sources) > 0 && reason != "":

@@ -15,6 +15,7 @@ from ._totals import Totals
 from ..violations._violations import Violation
 
 UNTOLD = "its writes couldn't be told apart"  # of rows: for any of several reasons
+FOUND_NO_ROW = "it found no row"  # what helps a SELECT doesn't help a write
 TOO_LITTLE = 5
 SHOWN = 15  # statement shapes
 STATUS_WORDS = (
@@ -177,8 +178,10 @@ def _reasons(totals: Totals) -> Iterator[str]:
         if rows:
             yield title
         for name, count, why in rows:
-            is_told = name == "rows_written" and why == UNTOLD
-            told = f"{why}: its transactions say why" if is_told else with_remedy(why)
+            if name == "rows_written" and why == UNTOLD:
+                told = f"{why}: its transactions say why"
+            else:
+                told = why if name == "writes" and why == FOUND_NO_ROW else with_remedy(why)
             yield f"{count:>12,} {NAMES[name]:<13} {visible(told, 200)}"
 
 
