@@ -70,8 +70,8 @@ APPLICATIONS = {
         "CREATE TABLE IF NOT EXISTS expense"
         " (project int, item text, amount numeric NOT NULL, PRIMARY KEY (project, item))",
         "INSERT INTO expense VALUES (%(place)s, 'paper', 20)",
-        ("SELECT amount FROM expense WHERE project = %(place)s",) * 2,
-        lambda rows: sum(row[0] for row in rows) + 60 <= 100,
+        ("SELECT sum(amount) FROM expense WHERE project = %(place)s",) * 2,
+        lambda rows: rows[0][0] + 60 <= 100,
         (
             "INSERT INTO expense VALUES (%(place)s, 'ink', 60)",
             "INSERT INTO expense VALUES (%(place)s, 'stamps', 60)",

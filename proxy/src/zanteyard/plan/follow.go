@@ -29,7 +29,14 @@ const (
 
 // asksBy decides whether what a SELECT asks for is followed: then whatever isn't in its result was passed over.
 func (m *maker) asksBy(p *Plan, body node) {
-	if !m.catalog.WithConditions() || p.Kind != Select || !body.has("fromClause") || p.Asked {
+	if !m.catalog.WithConditions() || p.Kind != Select || p.Asked {
+		return
+	}
+	if body.has("larg") {
+		p.NotFollowed = "UNION, INTERSECT or EXCEPT"
+		return
+	}
+	if !body.has("fromClause") {
 		return
 	}
 	f, reason := m.follow(p, body)
@@ -66,14 +73,12 @@ func (m *maker) follow(p *Plan, body node) (*follow, string) {
 		return nil, severalTables
 	case kindFound(body["fromClause"], "RangeSubselect"):
 		return nil, aSubqueryInFrom
-	case body.has("groupClause"):
+	case body.has("groupClause") && !p.Counts: // otherwise each group lists its rows
 		return nil, "GROUP BY"
 	case body.has("distinctClause"):
 		return nil, "DISTINCT"
 	case body.has("havingClause"):
 		return nil, "HAVING"
-	case p.Counts:
-		return nil, "an aggregate"
 	case body.has("limitOffset"):
 		return nil, "OFFSET"
 	case m.setReturning(map[string]any(body)):

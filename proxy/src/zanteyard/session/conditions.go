@@ -19,6 +19,7 @@ const (
 	tooManyAsks  = "more conditions of one transaction than are kept"
 	unclearRow   = "a row whose key isn't known"
 	undoneWrite  = "asked after a write that ROLLBACK TO may have undone"
+	ofNothing    = "an aggregate of no rows, which doesn't show its table"
 	unclearEnd   = "a transaction whose end isn't known"
 	namesUnsure  = "an UPDATE or DELETE of whose names it isn't certain what they refer to"
 )
@@ -89,17 +90,20 @@ func (s *Session) somethingRuns() bool {
 	return false
 }
 
-// got takes a row that the SELECT returned: it has exactly one read, unless its key can't be told.
-func (a *asking) got(reads []record.Read, failed bool) {
+// got takes a row that the SELECT returned, with what it was made of: one row, or all that an aggregate has, of which some
+// aren't listed if they are too many. failed says that some key can't be told.
+func (a *asking) got(reads []record.Read, failed, isWhole bool) {
 	a.rows++
 	switch {
 	case a.why != "", a.writes:
-	case failed || len(reads) != 1:
-		a.why = unclearRow
-	case len(a.found) >= mostFound:
+	case !isWhole, len(a.found)+len(reads) > mostFound:
 		a.why, a.found = tooManyFound, nil
+	case failed:
+		a.why = unclearRow
 	default:
-		a.found = append(a.found, reads[0].Key)
+		for _, one := range reads {
+			a.found = append(a.found, one.Key)
+		}
 	}
 }
 
@@ -127,6 +131,8 @@ func (s *Session) askedBy(p *plan.Plan, e *expectation, noted *record.Statement,
 		why = a.why
 	case a.rows >= a.Most && !a.writes:
 		why = cutOff
+	case p.Lists() && len(a.found) == 0: // the rows that it lists show that it is made of its plan's table
+		why = ofNothing
 	case e.replaced:
 		why = maybeAnother
 	case !e.knowsTables():

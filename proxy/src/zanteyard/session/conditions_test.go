@@ -58,7 +58,8 @@ func TestAsks(t *testing.T) {
 	sql(t, fill)
 	p := throughAsking(t)
 	texts := []string{"UPDATE t SET w = 'z' WHERE v < 20", "DELETE FROM t WHERE v = -7", "SELECT v FROM t WHERE v < 30", "SELECT v FROM t WHERE v < 40 LIMIT 2", "UPDATE t SET w = 'x' WHERE id = 20",
-		"SELECT v FROM t WHERE v < 10 AND id = 3", "SELECT count(*) FROM t", "SELECT v FROM part WHERE v = 6"}
+		"SELECT v FROM t WHERE v < 10 AND id = 3", "SELECT count(*) FROM t WHERE v < 30", "SELECT DISTINCT v FROM t", "SELECT v / 20, sum(v) FROM t WHERE v < 40 GROUP BY v / 20 ORDER BY v / 20",
+		"SELECT v FROM part WHERE v = 6"}
 	for i := 0; i < 2; i++ {
 		p.warm(texts...)
 	}
@@ -94,8 +95,10 @@ func TestAsks(t *testing.T) {
 			&pgproto3.Bind{Parameters: [][]byte{[]byte("-8"), []byte("-9")}}, &pgproto3.Execute{}, &pgproto3.Sync{}}, want: "t WHERE v IN (-8, -9): "},
 		{name: "one in a pipeline", texts: []string{"BEGIN", "UPDATE t SET w = 'z' WHERE v < 20; SELECT v FROM t WHERE v < 30", "COMMIT"},
 			want: "t WHERE v < 20:  wrote; t WHERE v < 30: 1,2 wrote"},
-		{name: "what isn't followed", texts: []string{"BEGIN", "SELECT count(*) FROM t", "SELECT v FROM t WHERE v < 30", "COMMIT"},
-			want: "not: an aggregate; t WHERE v < 30: 1,2"},
+		{name: "what isn't followed", texts: []string{"BEGIN", "SELECT DISTINCT v FROM t", "SELECT v FROM t WHERE v < 30", "COMMIT"},
+			want: "not: DISTINCT; t WHERE v < 30: 1,2"},
+		{name: "an aggregate", texts: []string{"SELECT count(*) FROM t WHERE v < 30"}, want: "t WHERE v < 30: 1,2"},
+		{name: "one of no rows", texts: []string{"SELECT count(*) FROM t WHERE v < -9"}, want: "not: an aggregate of no rows, which doesn't show its table"},
 		{name: "a failure", texts: []string{"BEGIN", "SELECT v FROM t WHERE v < 30", "SELECT 1/0", "COMMIT"}, want: "t WHERE v < 30: 1,2"},
 		{name: "several statements", texts: []string{"SELECT v FROM t WHERE v < 30; SELECT v FROM t WHERE v < 20"}, want: "t WHERE v < 30: 1,2; t WHERE v < 20: 1"},
 		{name: "a cursor", texts: []string{"BEGIN", "DECLARE c CURSOR FOR SELECT v FROM t WHERE v < 30", "FETCH ALL FROM c", "COMMIT"},
@@ -158,6 +161,13 @@ func TestManyAsks(t *testing.T) {
 	}
 	p.query("COMMIT")
 	its := p.sink.take()
+	p.warm("SELECT sum(v) FROM t WHERE v > 4900")
+	for want, text := range map[string]string{"": "SELECT sum(v) FROM t WHERE v > 4800", tooManyFound: "SELECT sum(v) FROM t WHERE v > 4700"} {
+		p.query(text)
+		if of := p.sink.take(); len(of) != 1 || len(of[0].Asks) != 1 || of[0].Asks[0].Why != want || len(of[0].Asks[0].Found) != 200*btoi(want == "") {
+			t.Errorf("%s: %+v", text, of)
+		}
+	}
 	if len(its) != 1 || len(its[0].Asks) != mostConditions+1 {
 		t.Fatalf("%d transactions", len(its))
 	}
@@ -173,4 +183,11 @@ func TestManyAsks(t *testing.T) {
 			t.Errorf("%d: %q", i, one.Why)
 		}
 	}
+}
+
+func btoi(is bool) int {
+	if is {
+		return 1
+	}
+	return 0
 }

@@ -24,11 +24,15 @@ func (s *Session) hidden(e *expectation, values [][]byte) {
 	reads, err := p.AppendReads(s.reads[:0], values, isBinary)
 	s.reads = reads
 	reads = s.comparable(p, reads)
-	if e.asking != nil {
-		e.asking.got(reads, err != nil)
-	}
 	counts := p.Kind == plan.Select && len(p.Unseen) == 0
 	isWhole := s.lists(e, values)
+	if e.asking != nil {
+		n, lists := p.Aggregated(values, isBinary)
+		if !lists {
+			n = 1
+		}
+		e.asking.got(reads, err != nil || isWhole && uint64(len(reads)) != n, isWhole)
+	}
 	reason := s.tx.unreported()
 	switch isOther := errors.Is(err, plan.ErrOtherRelation); {
 	case isOther || len(reads) > 0 && !e.knowsTables():

@@ -236,7 +236,7 @@ func (s *Session) row(o *output, e *expectation, m []byte, start, end int, pass 
 	s.values = values
 	if !ok {
 		if e.asking != nil {
-			e.asking.got(nil, true)
+			e.asking.got(nil, true, true)
 		}
 		o.pass(start, end)
 		return

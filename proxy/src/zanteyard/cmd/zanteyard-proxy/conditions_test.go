@@ -166,3 +166,41 @@ func TestWriteSkewOverACondition(t *testing.T) {
 		})
 	}
 }
+
+// TestSkewOverASum: each of two clients asks for a sum over an account's rows, and adds a row to it. Neither has read what
+// the other wrote, and there was no row to read: each passed over the other's.
+func TestSkewOverASum(t *testing.T) {
+	c := start(t)
+	direct, err := pgconn.Connect(context.Background(), sourceOf(c, "postgres"))
+	if err != nil {
+		t.Fatal(err)
+	}
+	defer direct.Close(context.Background())
+	sql(t, direct, "CREATE TABLE spent (id int PRIMARY KEY, account int, amount int); INSERT INTO spent VALUES (1, 7, 10), (2, 8, 10)")
+	const ask = "SELECT sum(amount) FROM spent WHERE account = 7"
+	p := begin(t, c, "--between", "10h", "--conditions")
+	p.until(`["open"`)
+	h := &hearing{p: p, g: newGraph()}
+	both := []*pgconn.PgConn{p.connect(), p.connect()}
+	for i, conn := range both {
+		sql(t, conn, fmt.Sprintf("INSERT INTO spent VALUES (%d, 9, 1)", 10+i))
+		h.warm(conn, ask)
+	}
+	for _, conn := range both {
+		sql(t, conn, "BEGIN ISOLATION LEVEL REPEATABLE READ")
+		if got := sql(t, conn, ask); got != "10" {
+			t.Fatalf("%s is spent", got)
+		}
+	}
+	for i, conn := range both {
+		sql(t, conn, fmt.Sprintf("INSERT INTO spent VALUES (%d, 7, 5)", 20+i))
+	}
+	for _, conn := range both {
+		sql(t, conn, "COMMIT")
+	}
+	h.settle()
+	h.stop()
+	if cycle, wrong := h.g.violation(false); cycle == "" || len(wrong) > 0 {
+		t.Errorf("it isn't violated: %v\n%s", wrong, h.line)
+	}
+}
