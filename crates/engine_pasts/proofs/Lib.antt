@@ -1,0 +1,2 @@
+mod Reports
+mod Steps
