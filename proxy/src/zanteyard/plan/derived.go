@@ -85,7 +85,11 @@ func (f *fromClause) reaches(d *derived, body node) bool {
 	if !known {
 		return false
 	}
-	used, stars := false, 0
+	stars, whole := mentions(body, name, outputs)
+	if whole {
+		return false
+	}
+	used := false
 	for _, ref := range f.refs {
 		fields := ref.fields
 		if len(fields) == 0 {
@@ -96,10 +100,8 @@ func (f *fromClause) reaches(d *derived, body node) bool {
 		switch {
 		case len(fields) > 1 && !of:
 			continue
-		case last == "*":
+		case len(fields) == 1 && last == "*":
 			stars++
-		case of && !outputs[last], !of && last == name:
-			return false // a whole row, or a function of it
 		case !of && !outputs[last]:
 			continue
 		}
@@ -112,6 +114,27 @@ func (f *fromClause) reaches(d *derived, body node) bool {
 		d.carried = true
 	}
 	return used || d.at.optional == 0 // else the server may skip it
+}
+
+// mentions counts the stars with this name in front anywhere in a query, and reports whether there may be a whole row of that
+// name, or a function of one. Another query within may have that name for something else: it isn't asked which is meant.
+func mentions(body node, name string, outputs map[string]bool) (stars int, whole bool) {
+	visit(map[string]any(body), func(kind string, its node) bool {
+		if kind != "ColumnRef" {
+			return true
+		}
+		fields := names(its.list("fields"))
+		switch n := len(fields); {
+		case n == 1:
+			whole = whole || fields[0] == name
+		case n > 1 && fields[n-2] == name && fields[n-1] == "*":
+			stars++
+		case n > 1 && fields[n-2] == name:
+			whole = whole || !outputs[fields[n-1]]
+		}
+		return true
+	})
+	return stars, whole
 }
 
 // endsWith reports whether the last column of a query is a star whose last columns are those of a subquery.

@@ -24,7 +24,8 @@ type fromClause struct {
 	unsorted bool
 	group    []any // of GROUP BY
 	derived  []*derived
-	word     int // of a subquery: its FROM
+	folds    bool // what is collected now may turn out not to be needed
+	word     int  // of a subquery: its FROM
 }
 
 // item is a table of a FROM clause.

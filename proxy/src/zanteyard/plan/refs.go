@@ -9,6 +9,8 @@ import "zanteyard/catalog"
 type reference struct {
 	fields []string
 	join   int
+	// folds means that the server may find out, before it plans, that it doesn't need the column.
+	folds bool
 }
 
 // inner has the names of a subquery's own FROM clause, which aren't those of the statement around it.
@@ -49,8 +51,12 @@ func (f *fromClause) collectWithin(value any, join int, in *inner) {
 			switch body := asNode(below); {
 			case name == "ColumnRef":
 				if fields := names(body.list("fields")); !in.has(fields) {
-					f.refs = append(f.refs, reference{fields: fields, join: join})
+					f.refs = append(f.refs, reference{fields: fields, join: join, folds: f.folds})
 				}
+			case folds(name, body) && !f.folds:
+				f.folds = true
+				f.collectWithin(below, join, in)
+				f.folds = false
 			case name == "SelectStmt" && body != nil:
 				f.collectWithin(below, join, f.inside(body, in))
 			default:
@@ -58,6 +64,34 @@ func (f *fromClause) collectWithin(value any, join int, in *inner) {
 			}
 		}
 	}
+}
+
+// folds reports whether a part of an expression may decide the whole of it before anything is read, as in `true OR a = 1`.
+func folds(kind string, body node) bool {
+	var parts []any
+	switch kind {
+	case "BoolExpr":
+		parts = body.list("args")
+	case "CoalesceExpr":
+		if parts = body.list("args"); len(parts) > 0 {
+			parts = parts[:len(parts)-1]
+		}
+	case "CaseExpr":
+		if body.has("arg") {
+			parts = []any{body["arg"]}
+			break
+		}
+		for _, one := range body.list("args") {
+			_, when := only(one)
+			parts = append(parts, when["expr"])
+		}
+	}
+	for _, part := range parts {
+		if !kindFound(part, "ColumnRef") {
+			return true
+		}
+	}
+	return false
 }
 
 // inside adds a subquery's tables to those of the subqueries around it.
@@ -90,7 +124,7 @@ func (f *fromClause) removable(it *item) bool {
 		return false
 	}
 	for _, ref := range f.refs {
-		if _, all, hit := f.column(ref, it); ref.join != it.optional && (all || hit) {
+		if _, all, hit := f.column(ref, it); ref.join != it.optional && !ref.folds && (all || hit) {
 			return false
 		}
 	}
@@ -112,6 +146,7 @@ func (f *fromClause) indexOnly(it *item) bool {
 	for _, ref := range f.refs {
 		number, all, hit := f.column(ref, it)
 		switch {
+		case ref.folds:
 		case all && ref.fields[len(ref.fields)-1] == "*":
 			common(columns, it.table, it.table)
 		case all:

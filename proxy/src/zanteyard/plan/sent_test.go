@@ -260,7 +260,7 @@ func TestOwnTexts(t *testing.T) {
 func TestOnlyOwnTexts(t *testing.T) {
 	senders := map[string][]string{ // by method or type: where it may be used
 		"Connect": {"own"}, "ConnectConfig": {"own"}, "Exec": {"own"}, "ExecParams": {"own"}, "ExecPrepared": {"own"},
-		"ExecBatch": {}, "CopyFrom": {}, "CopyTo": {}, "Query": {}, "Parse": {"session/own.go"},
+		"ExecBatch": {"own"}, "CopyFrom": {}, "CopyTo": {}, "Query": {}, "Parse": {"session/own.go"},
 	}
 	packages := map[string]bool{"pgconn": true, "pgproto3": true}
 	for folder, its := range sources(t) {

@@ -30,11 +30,11 @@ func (m *maker) unites(p *Plan, body node, end int) {
 		return
 	}
 	var parts []*united
-	before, size, width := len(p.Unseen), 0, 0
+	before, size, width, looks := len(p.Unseen), 0, 0, p.Looks
 	for i, one := range bodies {
 		part, f := m.part(p, one, end)
 		if part == nil {
-			p.Unseen = p.Unseen[:before]
+			p.Unseen, p.Sources, p.relations, p.Looks = p.Unseen[:before], nil, nil, looks
 			p.leaveOut(aUnion)
 			return
 		}
@@ -91,6 +91,9 @@ func (m *maker) part(p *Plan, body node, end int) (*united, *fromClause) {
 	if part.at = m.fromAfter(at, end, m.depths[at]); part.at < 0 {
 		return nil, nil
 	}
+	if body.has("distinctClause") {
+		return nil, nil // more columns would be made distinct, in another order
+	}
 	if lists, reason := m.merges(body); lists || reason != "" { // its rows aren't those of tables
 		if m.readsTables(body) {
 			p.leaveOut(aUnion)
@@ -136,10 +139,7 @@ func (u *united) insertion(all []*united) insertion {
 			}
 		}
 	}
-	if u.behind {
-		return insertion{text: ", " + h.text(), token: u.at, behind: true}
-	}
-	return insertion{text: ", " + h.text() + " ", token: u.at}
+	return insertion{text: ", " + h.text() + " ", token: u.at, behind: u.behind} // what follows may have no space in front
 }
 
 // nothing adds columns in the place of those of a table of another part.
