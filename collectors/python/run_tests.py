@@ -105,7 +105,9 @@ def main() -> int:
     if not all(map(importlib.util.find_spec, ("pytest", "xdist"))):
         print("pytest and pytest-xdist aren't both installed: unittest runs the tests, one by one")
         which = asked.modules or ["discover", "-t", ".", "-s", "tests"]
-        return subprocess.run([sys.executable, "-m", "unittest", *which], cwd=HERE).returncode
+        os.chdir(HERE)
+        sys.stdout.flush()
+        os.execv(sys.executable, [sys.executable, "-X", "faulthandler", "-m", "unittest", *which])
     paths = [
         each if os.path.exists(each) else os.path.join(HERE, *each.split(".")) + ".py"
         for each in asked.modules

@@ -4,7 +4,7 @@ import unittest
 
 from zanteyard import Logged
 from zanteyard.explain._anomalies import MEANINGS, _shortest_circle, find_anomaly, name_circle
-from zanteyard.explain._arcs import IN_SESSION, IN_TIME, READ, READ_BEFORE, WRITTEN, Arc
+from zanteyard.explain._arcs import Arc, ArcKind
 from zanteyard.promises._kinds import SNAPSHOT, STRICT
 
 
@@ -104,12 +104,16 @@ ROWS = (
 
 # Each row: what it shows, the expected name, and the kinds of the arcs in the cycle.
 CIRCLES = (
-    ("reads alone", "circular information flow", [READ, IN_SESSION, READ]),
-    ("writes alone", "dirty write", [WRITTEN, IN_SESSION, WRITTEN]),
-    ("one anti-dependency", "G-single", [READ, READ_BEFORE, WRITTEN]),
-    ("two apart", "G-nonadjacent", [READ_BEFORE, READ, READ_BEFORE, WRITTEN]),
-    ("two, one after another", "G2", [READ_BEFORE, READ, READ_BEFORE]),
-    ("by time", None, [READ_BEFORE, IN_TIME]),
+    ("reads alone", "circular information flow", [ArcKind.READ, ArcKind.IN_SESSION, ArcKind.READ]),
+    ("writes alone", "dirty write", [ArcKind.WRITTEN, ArcKind.IN_SESSION, ArcKind.WRITTEN]),
+    ("one anti-dependency", "G-single", [ArcKind.READ, ArcKind.READ_BEFORE, ArcKind.WRITTEN]),
+    (
+        "two apart",
+        "G-nonadjacent",
+        [ArcKind.READ_BEFORE, ArcKind.READ, ArcKind.READ_BEFORE, ArcKind.WRITTEN],
+    ),
+    ("two, one after another", "G2", [ArcKind.READ_BEFORE, ArcKind.READ, ArcKind.READ_BEFORE]),
+    ("by time", None, [ArcKind.READ_BEFORE, ArcKind.IN_TIME]),
     ("none", None, []),
 )
 

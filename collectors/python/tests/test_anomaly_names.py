@@ -11,7 +11,7 @@ from dataclasses import replace
 from zanteyard import Logged
 from zanteyard.core.errors import ZanteyardError
 from zanteyard.explain._anomalies import MEANINGS, Anomaly, name_circle
-from zanteyard.explain._arcs import IN_SESSION, IN_TIME, READ, READ_BEFORE, WRITTEN, Arc, Choice
+from zanteyard.explain._arcs import Arc, ArcKind, Choice
 from zanteyard.explain._audited import audited_apart
 from zanteyard.explain._claims import BY_TIME, EXCLUDED, contradicts, excluded
 from zanteyard.explain._explanation import Explanation
@@ -145,15 +145,15 @@ class Rule(unittest.TestCase):
         """An order of two writers counts only as far as what rules the other one out."""
         reader, writer, other, last = [(at, 0) for at in range(4)]
         choice = Choice(reader, "x", writer, other)
-        read = Arc(writer, other, "", (), READ)
+        read = Arc(writer, other, "", (), ArcKind.READ)
         for needs, wanted in (
-            ([IN_SESSION, READ], "G-single"),
-            ([WRITTEN, READ_BEFORE], "G2"),  # the reader's own anti-dependency follows
-            ([READ_BEFORE, WRITTEN], "G2"),
-            ([READ_BEFORE, IN_TIME], None),
+            ([ArcKind.IN_SESSION, ArcKind.READ], "G-single"),
+            ([ArcKind.WRITTEN, ArcKind.READ_BEFORE], "G2"),  # the reader's own anti-dependency follows
+            ([ArcKind.READ_BEFORE, ArcKind.WRITTEN], "G2"),
+            ([ArcKind.READ_BEFORE, ArcKind.IN_TIME], None),
         ):
             way = Arc(other, last, "", (), needs[0]), Arc(last, reader, "", (), needs[1])
-            forced = Arc(other, writer, "", way, WRITTEN, "x", choice)
+            forced = Arc(other, writer, "", way, ArcKind.WRITTEN, "x", choice)
             with self.subTest(needs=needs):
                 found = name_circle([read, forced])
                 self.assertEqual(found and found.name, wanted)

@@ -98,7 +98,10 @@ class Rerun(unittest.TestCase):
         return os.path.join(self.folder, name)
 
     def write(self, name, text):
-        with open(self.path(f"test_{name}.py"), "w", encoding="ascii") as file:
+        self.write_module(f"test_{name}", text)
+
+    def write_module(self, name, text):
+        with open(self.path(f"{name}.py"), "w", encoding="ascii") as file:
             file.write(text)
 
     def run_modules(self, *words, **times):
@@ -170,6 +173,24 @@ class Rerun(unittest.TestCase):
         self.assertRegex(ran.stdout, "crashed while running .*test_becomes.py::It::test_it")
         self.assertEqual((self.runs("became"), self.runs("next")), (1, 1))
         self.assertTrue(is_over(self.path("pid")))
+
+    def test_without_pytest(self):
+        for name in ("pytest", "xdist"):
+            with self.subTest(missing=name):
+                program = os.path.join(HERE, "run_tests.py")
+                call = f"import sys, runpy; sys.modules[{name!r}] = None; sys.argv[:] = ['', 'one']"
+                self.write_module("one", FAILS.format(folder=self.folder, name="one", times=0))
+                call += f"; runpy.run_path({program!r}, run_name='__main__')"
+                environment = {**os.environ, "PYTHONPATH": self.folder}
+                ran = subprocess.run(
+                    [sys.executable, "-c", call],
+                    env=environment,
+                    capture_output=True,
+                    text=True,
+                    timeout=600,
+                )
+                self.assertEqual((ran.returncode, "Ran 1 test" in ran.stderr), (0, True), ran.stderr)
+                self.assertIn("unittest runs the tests", ran.stdout)
 
     def test_what_hangs_is_ended_with_what_it_started(self):
         self.write("hangs_once", HANGS_ONCE.format(folder=self.folder))

@@ -14,7 +14,7 @@ from tests import watch_feed as feed
 from zanteyard.core._records import AuditId
 from zanteyard.program._binaries import PROGRAM
 from zanteyard.promises._kinds import SERIALIZABLE, SNAPSHOT
-from zanteyard.watch.violations._conflicts import READ_BEFORE, cycles_of, own_reads, refuted_reads
+from zanteyard.watch.violations._conflicts import cycles_of, own_reads, refuted_reads
 from zanteyard.watch.violations._kept import Kept
 
 SESSIONS = 6

@@ -5,6 +5,7 @@ import argparse
 from typing import Any
 
 from ..core._outcome import exit_status
+from ..core._verdict_kinds import Kind
 from ..core._visible import say
 from ..explain._report import EXPLAINED, violation_story
 from ..program._auditor import Auditor
@@ -23,7 +24,7 @@ def run_journal(asked: argparse.Namespace) -> int:
         count, sessions = sum(auditor.received), auditor.sessions
         say(f"{auditor.run_name}: {count} transactions from {sessions} sessions were accepted")
         report = auditor.last_round()
-        if report.kind == "violated":
+        if report.kind == Kind.VIOLATED:
             asked.status = exit_status(report.kind)
             round_told = (report.counts, EXPLAINED, report.certificate, auditor.promise)
             tell_with_page(violation_story(auditor, program, *round_told))

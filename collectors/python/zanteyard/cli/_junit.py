@@ -4,6 +4,7 @@ import re
 from collections.abc import Sequence
 from xml.etree import ElementTree
 
+from ..core._verdict_kinds import Kind
 from ..explain._report import Story, story_lines
 
 NOT_XML = re.compile("[^\t\n\x20-\ud7ff\ue000-\ufffd\U00010000-\U0010ffff]")
@@ -11,14 +12,14 @@ NOT_XML = re.compile("[^\t\n\x20-\ud7ff\ue000-\ufffd\U00010000-\U0010ffff]")
 
 def junit_report(name: str, stories: Sequence[Story]) -> str:
     """A report with one test case for each verdict; one that isn't serial is a failure."""
-    failures = sum(story.kind != "serial" for story in stories)
+    failures = sum(story.kind != Kind.SERIAL for story in stories)
     whole = {"name": "zanteyard check", "tests": str(len(stories)), "failures": str(failures)}
     suite = ElementTree.Element("testsuite", whole)
     for number, story in enumerate(stories, 1):
         named = f"{name}, verdict {number}" if len(stories) > 1 else name
         its = {"classname": f"zanteyard.{story.promise.name}", "name": _plain(named)}
         case = ElementTree.SubElement(suite, "testcase", its)
-        if story.kind != "serial":
+        if story.kind != Kind.SERIAL:
             what = story.anomaly.name if story.anomaly else story.kind
             told = {"type": what, "message": _plain(f"{story.kind}: {story.sentence}")}
             failure = ElementTree.SubElement(case, "failure", told)

@@ -3,6 +3,7 @@
 import time
 from collections.abc import Iterator
 
+from ..core._verdict_kinds import Kind
 from ..live._live_auditor import LiveAuditor
 from ..watch.pages._prometheus import Common, Family, by, one
 
@@ -23,7 +24,7 @@ def families(live: LiveAuditor, clients: int = 0) -> Iterator[Family]:
         meetings=live.meetings,
         clients=clients,
         is_violated=live.is_violated,
-        is_incomplete=outcome.whole.kind == "incomplete" or bool(live.earlier),
+        is_incomplete=outcome.whole.kind == Kind.INCOMPLETE or bool(live.earlier),
         restarts=auditor.restarts,
     ).families()
     for name, kind, about, value in (

@@ -4,6 +4,7 @@ import argparse
 from typing import Any
 
 from ..core._outcome import exit_status
+from ..core._verdict_kinds import Kind
 from ..core._visible import say
 from ..explain._report import Story, violation_story
 from ..program._auditor import Auditor
@@ -34,7 +35,7 @@ def run_demo(asked: argparse.Namespace) -> int:
     with Auditor(demo.SESSIONS, program=program) as auditor:
         demo.run_demo(asked.name, auditor)
         report = auditor.round()
-        if report.kind == "violated":
+        if report.kind == Kind.VIOLATED:
             counts, certificate = report.counts, report.certificate
             story = violation_story(auditor, program, counts, certificate=certificate)
         else:

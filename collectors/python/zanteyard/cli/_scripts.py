@@ -5,11 +5,12 @@ import argparse
 from typing import Any
 
 from ..core._outcome import exit_status
+from ..core._verdict_kinds import Kind
 from ..core._visible import say
 from ..core.errors import CantBeAskedError, ScriptMistakeError
 from ..explain._html import page_of
 from ..explain._json import levels_json, say_json, story_json
-from ..explain._levels import NO, PENDING, UNKNOWN, YES, Levels, levels_lines
+from ..explain._levels import Answer, Levels, levels_lines
 from ..explain._report import EXPLAINED, Story, verdict_story, violation_story
 from ..imports._garbage import no_collections
 from ..scripts._names import ScriptNames, read_names
@@ -26,7 +27,8 @@ from ._progress import Progress
 from ._told import origin, tell, tell_with_page, write
 
 
-OF_LEVELS = {YES: 0, NO: 1, PENDING: 3, UNKNOWN: 4}  # statuses, with --expect
+# Statuses, with --expect.
+OF_LEVELS = {Answer.YES: 0, Answer.NO: 1, Answer.PENDING: 3, Answer.UNKNOWN: 4}
 READING, EXPLAINING = "reading", "explaining"  # what progress shows
 OF_VERDICTS = ("promise", "all", "html", "json", "junit", *FOR_HISTORIES)
 
@@ -42,7 +44,7 @@ class Page:
     def write(self, story: Story) -> None:
         if self.path is None or self._is_final:
             return
-        self._is_final = story.kind == "violated"
+        self._is_final = story.kind == Kind.VIOLATED
         try:
             write(page_of(story, self._about, origin()), self.path)
         except OSError as error:
@@ -185,10 +187,10 @@ def check(asked: argparse.Namespace) -> int:
         with _run_of(asked, its.script) as run:
             progress.doing = run.doing
             for verdict in run.verdicts(its.lines):
-                is_violated = verdict.kind == "violated"
+                is_violated = verdict.kind == Kind.VIOLATED
                 if is_violated:
                     asked.status = exit_status(verdict.kind)  # this is final
-                if is_violated and stories and stories[-1].kind == "violated":
+                if is_violated and stories and stories[-1].kind == Kind.VIOLATED:
                     if not asked.json:
                         say(f"{its.where(verdict)} still violated")
                     continue
@@ -215,7 +217,7 @@ def explain(asked: argparse.Namespace) -> int:
         with _run_of(asked, its.script) as run:
             progress.doing = run.doing
             for verdict in run.verdicts(its.lines):
-                if verdict.kind == "violated":
+                if verdict.kind == Kind.VIOLATED:
                     break  # violated is final
             assert run.verdict is not None
             progress.doing = EXPLAINING
@@ -243,7 +245,7 @@ def levels(asked: argparse.Namespace) -> int:
 
 
 def _story(verdict: Verdict, run: ScriptRun, seconds: float) -> Story:
-    if verdict.kind == "violated":
+    if verdict.kind == Kind.VIOLATED:
         round_told = (verdict.counts, seconds, verdict.certificate)
         return violation_story(run.history, find_program(), *round_told, run.promise)
     return verdict_story(verdict, run.history, run.promise)

@@ -18,9 +18,10 @@ import threading
 import traceback
 from typing import Any
 
-from ..core._outcome import RATHER_LOSE_THE_AUDIT, RATHER_WAIT, UNDECIDED_STATUS, VIOLATED, Outcome
+from ..core._outcome import RATHER_LOSE_THE_AUDIT, RATHER_WAIT, UNDECIDED_STATUS, Outcome
 from ..core._outcome import exit_status
 from ..core._private_files import private
+from ..core._verdict_kinds import Kind
 from ..core.errors import FolderUnfitError, KeyFileError, ZanteyardError
 from ..explain._audited import from_start, refuted
 from ..explain._violation_text import tell_violation
@@ -144,7 +145,7 @@ def _audit(asked: argparse.Namespace, stack: contextlib.ExitStack, stopped: thre
         logger.warning("nothing was handed in: no client ran a transaction")
     if outcome.is_violated:
         _tell(asked, auditor, outcome)
-        return exit_status(VIOLATED)
+        return exit_status(Kind.VIOLATED)
     if faults:
         logger.error("ending: %s", faults[0])
         return UNDECIDED_STATUS

@@ -15,6 +15,7 @@ from dataclasses import dataclass, replace
 from typing import Any
 
 from ..core._outcome import RATHER_LOSE_THE_AUDIT, RATHER_WAIT, Outcome, words_of_before
+from ..core._verdict_kinds import Kind
 from ..core._visible import say
 from ..explain._audited import from_start, refuted
 from ..explain._charts import RoundSeen
@@ -79,7 +80,7 @@ class LiveRun:
 
     def _other_story(self) -> Story:
         whole = self.outcome.whole
-        kind = whole.kind if whole.kind in ("serial", "pending") else "spent"
+        kind = whole.kind if whole.kind in (Kind.SERIAL, Kind.PENDING) else Kind.SPENT
         waiting = tuple(
             f"{read.reader[0]}.{read.reader[1]} read {read.key} from "
             f"{read.source[0]}.{read.source[1]}, which never arrived"

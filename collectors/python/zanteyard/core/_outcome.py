@@ -4,14 +4,11 @@ from dataclasses import dataclass
 from typing import Any
 
 from ._records import Pending, Report
+from ._verdict_kinds import Kind
 from ._visible import shown
 
-SERIAL, PENDING, VIOLATED, UNDECIDED = "serial", "pending", "violated", "undecided"
-INCOMPLETE = "incomplete"  # something that clients did wasn't audited
-COLLECTOR = "the collector's own violation"  # of fences and marks only; no client is involved
-RUNNING = "running"
 # The exit status of a command that ends with this verdict; 4 for any other.
-STATUSES: Mapping[str, int] = {SERIAL: 0, VIOLATED: 1, PENDING: 3}
+STATUSES: Mapping[str, int] = {Kind.SERIAL: 0, Kind.VIOLATED: 1, Kind.PENDING: 3}
 UNDECIDED_STATUS = 4
 
 
@@ -67,7 +64,7 @@ class Outcome:
 
     @property
     def is_violated(self) -> bool:
-        return self.kind in (VIOLATED, COLLECTOR)
+        return self.kind in (Kind.VIOLATED, Kind.COLLECTOR)
 
     @property
     def counts(self) -> Sequence[int] | None:
@@ -88,7 +85,10 @@ class Outcome:
             return self
         every = (*self.earlier, self)
         violated = next((outcome for outcome in every if outcome.is_violated), None)
-        kind = violated.kind if violated else RUNNING if self.kind == RUNNING else INCOMPLETE
+        if violated:
+            kind = violated.kind
+        else:
+            kind = Kind.RUNNING if self.kind == Kind.RUNNING else Kind.INCOMPLETE
         return Outcome(
             kind,
             sum(outcome.audited for outcome in every),
@@ -120,9 +120,6 @@ class Outcome:
         return shown("; ".join(parts))
 
 
-KINDS = {"spent": UNDECIDED}
-
-
 def words_of_before(reads: int) -> str:
     """A phrase for this many reads of versions whose writer the audit doesn't know."""
     what = "1 read was of a version" if reads == 1 else f"{reads} reads were of versions"
@@ -131,7 +128,9 @@ def words_of_before(reads: int) -> str:
 
 def kind_of(report: Report | None, failure: Exception | None, is_whole: bool) -> str:
     """The kind of an audit that has ended. A violation stays a violation, whatever is missing."""
-    kind = KINDS.get(report.kind, report.kind) if report else INCOMPLETE
-    if kind == VIOLATED:
+    kind = report.kind if report else Kind.INCOMPLETE
+    if kind == Kind.VIOLATED:
         return kind
-    return kind if is_whole and failure is None else INCOMPLETE
+    if not is_whole or failure is not None:
+        return Kind.INCOMPLETE
+    return Kind.UNDECIDED if kind == Kind.SPENT else kind

@@ -13,7 +13,7 @@ from dataclasses import dataclass
 from ..core._own_keys import FENCE, PLAIN_FENCE
 from ..core._records import Logged, Naming, ShownId, Source, Transactions
 from ..promises._kinds import SERIALIZABLE, Promise
-from ._arcs import IN_TIME, Arc, below, told_later, transaction_of
+from ._arcs import Arc, ArcKind, below, told_later, transaction_of
 from ._cycles import kind_of, weakest
 from ._lost_updates import lost_updates
 from ._words import name as plain_name
@@ -108,7 +108,7 @@ def name_circle(arcs: Sequence[Arc], name: Naming = plain_name) -> Anomaly | Non
     """The name of a cycle that matches none of the patterns, or of the weakest one that it follows
     from: which of them there is depends on the order of versions. None if real-time order is
     involved."""
-    if not arcs or any(arc.kind == IN_TIME for arc in below(arcs)):
+    if not arcs or any(arc.kind == ArcKind.IN_TIME for arc in below(arcs)):
         return None
     shown = weakest(arcs)
     ids = tuple(dict.fromkeys(transaction_of(arc.start) for arc in shown))

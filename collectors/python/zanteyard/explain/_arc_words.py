@@ -5,13 +5,9 @@ from collections.abc import Sequence
 
 from ..core._records import Naming, ShownId, Transactions
 from ._arcs import (
-    IN_SESSION,
-    IN_TIME,
-    READ,
-    READ_BEFORE,
     SESSION,
-    WRITTEN,
     Arc,
+    ArcKind,
     Choice,
     Event,
     Node,
@@ -42,34 +38,34 @@ class ArcWords:
     def of(self, node: Node) -> str:
         return self.name(transaction_of(node))
 
-    def _arc(self, start: Node, end: Node, why: str, kind: str, key: str = "") -> Arc:
+    def _arc(self, start: Node, end: Node, why: str, kind: ArcKind, key: str = "") -> Arc:
         return Arc(start, end, why, (), kind, key, told=told_arc(start, end, self.name))
 
     def in_session(self, start: Node, end: Node) -> Arc:
         is_own = transaction_of(start) == transaction_of(end)
-        return self._arc(start, end, SELF if is_own else SESSION, IN_SESSION)
+        return self._arc(start, end, SELF if is_own else SESSION, ArcKind.IN_SESSION)
 
     def in_time(self, start: Node, end: Node) -> Arc:
         first, second = transaction_of(start), transaction_of(end)
         names = self.name(first), self.name(second)
         why = told_later(self.txns[first], self.txns[second], names)
-        return self._arc(start, end, why, IN_TIME)
+        return self._arc(start, end, why, ArcKind.IN_TIME)
 
     def read(self, key: str, start: Node, end: Node) -> Arc:
         if transaction_of(start) == transaction_of(end):  # between its own begin and commit
             return self.in_session(start, end)
         why = f"{self.of(end)} read {key} from {self.of(start)}"
-        return self._arc(start, end, why, READ, key)
+        return self._arc(start, end, why, ArcKind.READ, key)
 
     def read_before_all(self, key: str, start: Node, end: Node) -> Arc:
         """The arc from a reader of the first version to a writer of the key."""
         read = f"{self.of(start)} read {key} {version(key, 'init', self.name)}"
         why = f"{read}, and {self.of(end)} wrote it"
-        return self._arc(start, end, why, READ_BEFORE, key)
+        return self._arc(start, end, why, ArcKind.READ_BEFORE, key)
 
     def assumed(self, choice: Choice, side: int) -> Arc:
         """The arc of one side of a choice, assumed in one case of a split."""
-        kind = READ_BEFORE if side == 2 and not is_of_writers(choice) else WRITTEN
+        kind = ArcKind.READ_BEFORE if side == 2 and not is_of_writers(choice) else ArcKind.WRITTEN
         arc = self._arc(*choice.sides()[side - 1], ASSUMED, kind)
         return arc._replace(choice=choice)
 
@@ -98,7 +94,7 @@ class ArcWords:
         assert choice is not None
         start, end = transaction_of(first.start), transaction_of(first.end)
         before, after = Event(start, "commit"), Event(end, "begin")
-        its = self._arc(before, after, first.why, WRITTEN)
+        its = self._arc(before, after, first.why, ArcKind.WRITTEN)
         other = Choice(before, choice.key, Event(start, "begin"), after)
         return its._replace(needs=first.needs, choice=other)
 

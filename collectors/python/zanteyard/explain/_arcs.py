@@ -1,6 +1,7 @@
 """Arcs, which say what comes before what, and the arcs that each of them follows from."""
 
 from collections.abc import Iterable, Iterator
+from enum import StrEnum
 from typing import Any, NamedTuple
 
 from ..core._records import History, Logged, Naming, ShownId, Transactions
@@ -16,11 +17,17 @@ class Event(NamedTuple):
 
 Node = Any  # a ShownId, or an Event
 Ends = tuple[Node, Node]
-# The kinds of arcs, by which cycles are named.
-IN_SESSION, READ, IN_TIME = "session", "read", "time"
-READ_BEFORE = "read before"  # from a reader of a version to who overwrote it: an anti-dependency
-WRITTEN = "written"  # from a writer of a key to a later one
 SESSION = "they are in one session"
+
+
+class ArcKind(StrEnum):
+    """The kinds of arcs, by which cycles are named."""
+
+    IN_SESSION = "session"
+    READ = "read"
+    IN_TIME = "time"
+    READ_BEFORE = "read before"  # from a reader of a version to who overwrote it: anti-dependency
+    WRITTEN = "written"  # from a writer of a key to a later one
 
 
 class Choice(NamedTuple):
@@ -51,7 +58,7 @@ class Arc(NamedTuple):
     end: Node
     why: str
     needs: tuple["Arc", ...]
-    kind: str = IN_SESSION
+    kind: ArcKind = ArcKind.IN_SESSION
     key: str = ""  # the key that was read, if that is the reason
     choice: Choice | None = None
     told: str = ""  # a phrase for what comes before what

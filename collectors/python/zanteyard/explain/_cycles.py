@@ -8,7 +8,7 @@ and it shows no more than the weakest of them.
 
 from collections.abc import Iterable, Mapping, Sequence
 
-from ._arcs import READ, READ_BEFORE, WRITTEN, Arc, below, is_of_writers
+from ._arcs import Arc, ArcKind, below, is_of_writers
 
 DIRTY_WRITE, FLOW = "dirty write", "circular information flow"
 SINGLE, NONADJACENT, G2 = "G-single", "G-nonadjacent", "G2"
@@ -20,14 +20,13 @@ WEAKNESS: Mapping[str, int] = {DIRTY_WRITE: 0, FLOW: 0, SINGLE: 1, NONADJACENT: 
 def kind_of(cycle: Sequence[Arc]) -> str:
     """The name of a cycle by the kinds of its arcs."""
     kinds = [arc.kind for arc in cycle]
-    count = kinds.count(READ_BEFORE)
+    count = kinds.count(ArcKind.READ_BEFORE)
     if not count:
-        return FLOW if READ in kinds else DIRTY_WRITE
+        return FLOW if ArcKind.READ in kinds else DIRTY_WRITE
     if count == 1:
         return SINGLE
-    are_next = any(
-        first == second == READ_BEFORE for first, second in zip(kinds, [*kinds[1:], kinds[0]])
-    )
+    pairs = zip(kinds, [*kinds[1:], kinds[0]])
+    are_next = any(first == second == ArcKind.READ_BEFORE for first, second in pairs)
     return G2 if are_next else NONADJACENT
 
 
@@ -36,9 +35,9 @@ def ruled_out(arc: Arc) -> list[Arc]:
     assert arc.choice is not None
     first, second = arc.choice.sides()
     if arc.ends == second:
-        ends, kind = first, WRITTEN
+        ends, kind = first, ArcKind.WRITTEN
     else:
-        ends, kind = second, WRITTEN if is_of_writers(arc.choice) else READ_BEFORE
+        ends, kind = second, ArcKind.WRITTEN if is_of_writers(arc.choice) else ArcKind.READ_BEFORE
     return [Arc(*ends, "", (), kind, arc.choice.key, arc.choice), *arc.needs]
 
 

@@ -1,10 +1,11 @@
 """A page about a story: one HTML file that loads nothing from outside, and works without scripting
 and on paper."""
 
-from collections.abc import Iterable, Sequence
+from collections.abc import Iterable, Mapping, Sequence
 from dataclasses import replace
 
 from ..core._records import ABORTED
+from ..core._verdict_kinds import Kind
 from ..core._version import VERSION
 from ..core._visible import html_lines, html_text
 from ._anomalies import meaning_of
@@ -86,11 +87,11 @@ td code { overflow-wrap: anywhere; color: var(--soft); }
   * { -webkit-print-color-adjust: exact; print-color-adjust: exact; } }
 """
 
-HEADINGS = {
-    "serial": "Nothing is wrong with what was audited",
-    "pending": "Nothing is wrong so far, and something is still missing",
-    "violated": "These transactions can't have run one at a time",
-    "spent": "This wasn't decided",
+HEADINGS: Mapping[str, str] = {
+    Kind.SERIAL: "Nothing is wrong with what was audited",
+    Kind.PENDING: "Nothing is wrong so far, and something is still missing",
+    Kind.VIOLATED: "These transactions can't have run one at a time",
+    Kind.SPENT: "This wasn't decided",
 }
 
 ARROWS = (
@@ -110,7 +111,7 @@ BEFORE_YOU_ACCUSE = (
 def page_of(story: Story, about: str, origin: str, rounds: Sequence[RoundSeen] = ()) -> str:
     """The whole page. `about` says in a few words what was audited, `origin` by which program."""
     parts: list[str] = [_head(story, about)]
-    if story.kind == "violated":
+    if story.kind == Kind.VIOLATED:
         parts += [*picture_part(story), *reasons_part(story), *_table(story.steps)]
         parts += [*_others(story), *_again(story)]
     else:
@@ -158,15 +159,16 @@ def _head(story: Story, about: str) -> str:
 
 
 def _heading(story: Story) -> str:
-    if story.kind == "violated" and story.promise.is_split:
+    if story.kind == Kind.VIOLATED and story.promise.is_split:
         return "These transactions can't have run on snapshots"
-    if story.kind == "violated" and story.promise.is_timed:
+    if story.kind == Kind.VIOLATED and story.promise.is_timed:
         return "These transactions can't have run one at a time, each at its own time"
     return HEADINGS[story.kind]
 
 
 def _sentence(story: Story) -> str:
-    more = ", and nothing that comes later can change that" if story.kind == "violated" else ""
+    is_final = story.kind == Kind.VIOLATED
+    more = ", and nothing that comes later can change that" if is_final else ""
     return _capital(story.sentence) + more
 
 

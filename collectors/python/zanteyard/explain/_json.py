@@ -4,12 +4,11 @@ import json
 from collections.abc import Sequence
 from typing import Any
 
+from ..core._verdict_kinds import Kind
 from ..core._visible import say
 from ._anomalies import MEANINGS
 from ._levels import Level
 from ._report import Story
-
-VERDICTS = {"spent": "undecided"}  # words of the auditor that people don't know
 
 
 def say_json(value: object) -> None:
@@ -20,7 +19,7 @@ def say_json(value: object) -> None:
 def story_json(story: Story) -> dict[str, Any]:
     """A verdict. What doesn't apply to it is left out."""
     found: dict[str, Any] = {
-        "verdict": VERDICTS.get(story.kind, story.kind),
+        "verdict": Kind.UNDECIDED if story.kind == Kind.SPENT else story.kind,
         "promise": story.promise.name,
         "sentence": story.sentence,
         "checked": sum(story.counts),
@@ -29,7 +28,7 @@ def story_json(story: Story) -> dict[str, Any]:
         found["order"] = list(story.order)
     if story.waiting:
         found["waiting"] = list(story.waiting)
-    if story.kind != "violated":
+    if story.kind != Kind.VIOLATED:
         return found
     if story.anomaly is not None:
         name = story.anomaly.name

@@ -1,9 +1,11 @@
 """Which promises a finished history keeps, and which transactions break the others."""
 
-from collections.abc import Iterator, Sequence
+from collections.abc import Callable, Iterator, Mapping, Sequence
 from dataclasses import dataclass, field
+from enum import StrEnum
 
 from ..core._records import History, Naming
+from ..core._verdict_kinds import Kind
 from ..core.errors import CantBeAskedError, ScriptMistakeError
 from ..promises._kinds import (
     ALL,
@@ -29,7 +31,25 @@ from ..scripts._running import MORE, ScriptHistory, ScriptRun, Verdict
 from ._shrinking import Part, is_violated, smaller
 from ._standing import listed
 
-YES, NO, UNKNOWN, PENDING = "yes", "no", "unknown", "so far"
+
+class Answer(StrEnum):
+    """Whether a promise is kept."""
+
+    YES = "yes"
+    NO = "no"
+    UNKNOWN = "unknown"
+    PENDING = "so far"  # a read's writer hasn't arrived
+
+
+# What has the same answer.
+FOLLOWING: Mapping[Answer, Callable[[Promise], Sequence[Promise]]] = {
+    Answer.YES: weaker,
+    Answer.PENDING: weaker,
+    Answer.NO: stronger,
+    Answer.UNKNOWN: lambda _: (),
+}
+BEGINS = {Answer.NO: "broken", Answer.PENDING: "kept so far", Answer.UNKNOWN: "unknown"}
+
 # Checked with the script's own lines; what these forget is forgotten for each promise.
 BY_LINES = tuple(each for each in ALL if each.keeps_sessions and each != PREFIX)
 
@@ -40,7 +60,7 @@ class Level:
     is unknown; otherwise it is empty."""
 
     promise: Promise
-    answer: str
+    answer: Answer
     why: str = ""
 
 
@@ -79,31 +99,30 @@ class Levels:
     def _ask(self, promise: Promise) -> None:
         self._asked = promise
         if promise.is_timed and self.times is None:
-            self._note(Level(promise, UNKNOWN, "the script has no times"))
+            self._note(Level(promise, Answer.UNKNOWN, "the script has no times"))
             return
         try:
             level = self._by_lines(promise) if promise in BY_LINES else self._by_history(promise)
         except CantBeAskedError as error:
-            level = Level(promise, UNKNOWN, str(error))
+            level = Level(promise, Answer.UNKNOWN, str(error))
         except ScriptMistakeError as error:
             if promise == SERIALIZABLE:
                 raise
-            level = self._by_few(promise) or Level(promise, UNKNOWN, str(error))
+            level = self._by_few(promise) or Level(promise, Answer.UNKNOWN, str(error))
         self._note(level)
 
     def _note(self, level: Level) -> None:
         """Notes a level, with what follows from it."""
         self._found[level.promise] = level
-        following = {YES: weaker, PENDING: weaker, NO: stronger}.get(level.answer)
-        for promise in following(level.promise) if following else ():
+        for promise in FOLLOWING[level.answer](level.promise):
             known = self._found.get(promise)
-            if known is None or known.answer == UNKNOWN:
+            if known is None or known.answer == Answer.UNKNOWN:
                 self._found[promise] = Level(promise, level.answer, level.why)
 
     def _by_lines(self, promise: Promise) -> Level:
         with ScriptRun(self.program, self.most_nodes, self.names, promise, self.times) as run:
             for verdict in run.verdicts(self.lines):
-                if verdict.kind == "violated":
+                if verdict.kind == Kind.VIOLATED:
                     break  # violated is final
             assert run.verdict is not None
             if promise == SERIALIZABLE:
@@ -112,13 +131,13 @@ class Levels:
             return self._level(promise, run.verdict, run.history)
 
     def _level(self, promise: Promise, verdict: Verdict, history: ScriptHistory) -> Level:
-        if verdict.kind == "violated":
-            return Level(promise, NO, self._by_whom(promise, verdict, history))
-        if verdict.kind == "serial":
-            return Level(promise, YES)
-        if verdict.kind == "pending":
-            return Level(promise, PENDING, "a read names a transaction that hasn't arrived")
-        return Level(promise, UNKNOWN, "the search ran out of its budget")
+        if verdict.kind == Kind.VIOLATED:
+            return Level(promise, Answer.NO, self._by_whom(promise, verdict, history))
+        if verdict.kind == Kind.SERIAL:
+            return Level(promise, Answer.YES)
+        if verdict.kind == Kind.PENDING:
+            return Level(promise, Answer.PENDING, "a read names a transaction that hasn't arrived")
+        return Level(promise, Answer.UNKNOWN, "the search ran out of its budget")
 
     def _by_few(self, promise: Promise) -> Level | None:
         """The level if a few transactions that break a stronger promise break this one, too: then
@@ -128,7 +147,7 @@ class Levels:
             if few is not None and len(Part.of(few).txns) <= MOST_SESSIONS:
                 if is_violated(few, self.program, promise):
                     self._small[promise], self._called[promise] = few, self._called[other]
-                    return Level(promise, NO, _told(few, self._called[other]))
+                    return Level(promise, Answer.NO, _told(few, self._called[other]))
         return None
 
     def _by_whom(self, promise: Promise, verdict: Verdict, history: ScriptHistory) -> str:
@@ -143,12 +162,13 @@ class Levels:
         when fences can't be told apart from other transactions. The answer is unknown for a history
         that isn't whole."""
         if not self._is_whole:
-            return Level(promise, UNKNOWN, "the script forgets, or resumes another one")
+            return Level(promise, Answer.UNKNOWN, "the script forgets, or resumes another one")
         whole, names = from_start(self._history)
         if not promise.keeps_sessions:
             return self._without_sessions(promise, whole, names)
         if self._history.remaining > MOST // 2:  # each becomes two
-            return Level(promise, UNKNOWN, f"the script has more than {MOST // 2:,} transactions")
+            why = f"the script has more than {MOST // 2:,} transactions"
+            return Level(promise, Answer.UNKNOWN, why)
         report = audited(whole, self.program, promise)[0]
         verdict = Verdict(report.kind, 0, report.counts, report.certificate, 0)
         return self._level(promise, verdict, self._history)
@@ -159,17 +179,17 @@ class Levels:
         part = Part.of(whole, promise)
         if len(part.txns) <= MOST_SESSIONS:
             kind = audited(whole, self.program, promise)[0].kind
-            if kind != "violated":
+            if kind != Kind.VIOLATED:
                 return self._level(promise, Verdict(kind, 0, (), (), 0), self._history)
             small = smaller(whole, self.program, self.seconds, (), promise)
-            return Level(promise, NO, _told(small, names))
+            return Level(promise, Answer.NO, _told(small, names))
         (kept_in_order,) = [one for one, other in WITHOUT_SESSIONS.items() if other == promise]
         few = self._small.get(kept_in_order)
         if few is not None and len(Part.of(few).txns) <= MOST_SESSIONS:
             if is_violated(few, self.program, promise):
-                return Level(promise, NO, _told(few, names))
+                return Level(promise, Answer.NO, _told(few, names))
         why = f"the script has more than {MOST_SESSIONS} transactions, and each takes a session"
-        return Level(promise, UNKNOWN, why)
+        return Level(promise, Answer.UNKNOWN, why)
 
 
 def _told(small: History, names: Naming) -> str:
@@ -195,11 +215,10 @@ def levels_lines(levels: Sequence[Level]) -> Iterator[str]:
     for name, row in ROWS:
         cells = [answers[promise].answer if promise else "" for promise in row]
         yield (name.ljust(names) + "".join(cell.ljust(width) for cell in cells)).rstrip()
-    told: dict[tuple[str, str], list[Promise]] = {}
+    told: dict[tuple[Answer, str], list[Promise]] = {}
     for level in levels:
-        if level.answer != YES:
+        if level.answer != Answer.YES:
             told.setdefault((level.answer, level.why), []).append(level.promise)
     for (answer, why), promises in told.items():
-        begins = {NO: "broken", PENDING: "kept so far", UNKNOWN: "unknown"}[answer]
-        yield f"{begins}: {listed(promises)}"
-        yield f"  {'by ' if answer == NO else ''}{why}"
+        yield f"{BEGINS[answer]}: {listed(promises)}"
+        yield f"  {'by ' if answer == Answer.NO else ''}{why}"

@@ -1,8 +1,8 @@
 """Why no order explains a history: the refutation that the auditor has checked, in words."""
 
 
-from ..core._outcome import VIOLATED
 from ..core._records import History, Naming
+from ..core._verdict_kinds import Kind
 from ..program._binaries import PROGRAM
 from ..promises._kinds import SERIALIZABLE, Promise
 from ._audited import Audited, audited_apart
@@ -14,7 +14,7 @@ from ._words import name
 def explanation_of(audited: Audited, history: History, name: Naming = name) -> Explanation:
     """What the auditor's refutation of this history says."""
     report = audited.report
-    if report.kind != VIOLATED:
+    if report.kind != Kind.VIOLATED:
         return Explanation(f"checked by themselves, these transactions are {report.kind}")
     try:
         its = (report.certificate, history, audited.keys, name, audited.moved)

@@ -14,7 +14,7 @@ from ..core._records import History, Naming, ShownId
 from ..promises._kinds import EVENTS
 from ..promises._times import TIME_KEYS
 from ._arc_words import ArcWords
-from ._arcs import SESSION, WRITTEN, Arc, Choice, Ends, Event, Node, below, merged
+from ._arcs import SESSION, Arc, ArcKind, Choice, Ends, Event, Node, below, merged
 from ._arcs import is_of_writers, shortest_circle, table, transaction_of
 from ._cycles import places_to, weakest, weakness
 from ._explanation import Case, Explanation
@@ -218,7 +218,7 @@ KEY_OF = {"read": "key", "base": "key"}  # kinds of arcs that name a key
 def _length(around: Sequence[Arc]) -> tuple[int, int, int]:
     """How long a cycle is to explain: its own arcs, everything that it follows from, and how many
     of its arcs say which of two writers came first rather than who read what."""
-    return len(around), len(below(around)), sum(arc.kind == WRITTEN for arc in around)
+    return len(around), len(below(around)), sum(arc.kind == ArcKind.WRITTEN for arc in around)
 
 
 def _place(node: Node) -> tuple[ShownId, str]:

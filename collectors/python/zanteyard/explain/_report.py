@@ -11,6 +11,7 @@ from typing import Any
 
 from ..core._circumstances import caller_of, circumstances, clock_of, values_of
 from ..core._records import AuditId, History, Logged, Naming, Pending, ShownId
+from ..core._verdict_kinds import Kind
 from ..promises._kinds import SERIALIZABLE, Promise
 from ._anomalies import Anomaly, find_anomaly, meaning_of, name_circle
 from ._arcs import transaction_of
@@ -94,7 +95,7 @@ def verdict_story(
 ) -> Story:
     """The story of a verdict other than violated."""
     order: tuple[str, ...] = ()
-    if verdict.kind in ("serial", "pending"):
+    if verdict.kind in (Kind.SERIAL, Kind.PENDING):
         order = tuple(
             " ".join([history.called(AuditId((session, number))), *event])
             for session, number, *event in verdict.certificate
@@ -165,7 +166,7 @@ def story_of(
     arcs = explanation.all_arcs()
     ends = {transaction_of(end) for arc in arcs for end in arc.ends}
     return Story(
-        "violated",
+        Kind.VIOLATED,
         tuple(counts),
         anomaly or name_circle(explanation.arcs, names),
         tuple(_steps(history, names, ends)),

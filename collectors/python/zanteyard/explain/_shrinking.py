@@ -10,9 +10,9 @@ from concurrent.futures import ThreadPoolExecutor
 from itertools import islice
 from typing import Any
 
-from ..core._outcome import VIOLATED
 from ..core._own_keys import is_own
 from ..core._records import History, Logged, ShownId, Source
+from ..core._verdict_kinds import Kind
 from ..program._binaries import PROGRAM
 from ..promises._asking import LIMIT, longest
 from ..promises._kinds import SERIALIZABLE, Promise
@@ -103,7 +103,7 @@ class Part:
         }
         history = [[self.moved(self.txns[id], new) for id in ids] for ids in old]
         its = audited_apart(history, program, self.promise) if history else None
-        if its is None or its.report.kind != VIOLATED:
+        if its is None or its.report.kind != Kind.VIOLATED:
             return None
         if not self.promise.keeps_sessions:  # the report has other numbers
             return {*self.txns}

@@ -6,6 +6,7 @@ from collections.abc import Iterator, Sequence
 from dataclasses import dataclass
 
 from ..core._records import History, Logged, ShownId
+from ..core._verdict_kinds import Kind
 from ..core.errors import CantBeAskedError, ZanteyardError
 from ..promises._kinds import ALL, SERIALIZABLE, WITHOUT_SESSIONS, Promise, stronger, weaker
 from ._arcs import table
@@ -100,7 +101,9 @@ def _keeps(small: History, program: str, promise: Promise) -> bool | None:
         return None
     except ZanteyardError:  # the verdict was reported before, and doesn't depend on this
         return None
-    return {"violated": False, "serial": True, "pending": True}.get(kind)
+    if kind == Kind.VIOLATED:
+        return False
+    return True if kind in (Kind.SERIAL, Kind.PENDING) else None
 
 
 class Apart:

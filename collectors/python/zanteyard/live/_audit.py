@@ -5,9 +5,10 @@ import time
 from collections import Counter
 from collections.abc import Iterable, Sequence
 
-from ..core._outcome import COLLECTOR, PENDING, RUNNING, SERIAL, VIOLATED, Outcome, kind_of
+from ..core._outcome import Outcome, kind_of
 from ..core._own_keys import FENCE, LONGEST
 from ..core._records import AuditId, Cut, Logged, Pending, Report, StoreId, never_came
+from ..core._verdict_kinds import Kind
 from ..program._tenancy import Tenancy
 from ..program._window import SESSIONS, Coverage
 from ..core.errors import AuditLostError, FullError, NoCutError, NotAnchoredError
@@ -68,7 +69,7 @@ class Audit:
 
     @property
     def is_violated(self) -> bool:
-        return self.report is not None and self.report.kind == VIOLATED
+        return self.report is not None and self.report.kind == Kind.VIOLATED
 
     @property
     def has_news(self) -> bool:
@@ -77,11 +78,12 @@ class Audit:
 
     def outcome(self, has_ended: bool, failure: Exception | None) -> Outcome:
         audited = sum(self.report.counts) if self.report else 0
-        kind, handed_in = RUNNING, self.handed_in
+        kind: str = Kind.RUNNING
+        handed_in = self.handed_in
         if self.is_violated or has_ended:
             kind = kind_of(self.report, failure, audited >= handed_in)
         if self._is_collectors_own:
-            kind = COLLECTOR
+            kind = Kind.COLLECTOR
         return Outcome(
             kind,
             audited,
@@ -335,7 +337,7 @@ class Audit:
         return wrong
 
     def _awaited(self) -> dict[int, int]:
-        if self.report is None or self.report.kind != PENDING:
+        if self.report is None or self.report.kind != Kind.PENDING:
             return {}
         reads = never_came(self._auditor.history, self._auditor.marks)
         return dict(Counter(read.source[0] for read in reads))
@@ -343,7 +345,7 @@ class Audit:
     def _cut(self, report: Report) -> tuple[Cut | None, str]:
         """What was forgotten; or None and the reason, which is empty if the verdict is the
         reason."""
-        if report.kind not in (SERIAL, PENDING):
+        if report.kind not in (Kind.SERIAL, Kind.PENDING):
             return None, ""
         try:
             cut = self._auditor.truncate()
@@ -369,7 +371,7 @@ class Audit:
 
     def find_pending(self) -> None:
         """Finds the reads that are still pending."""
-        if self.report is not None and self.report.kind == PENDING:
+        if self.report is not None and self.report.kind == Kind.PENDING:
             self._pending = tuple(never_came(self._auditor.history, self._auditor.marks))
 
     def find_whose(self) -> None:

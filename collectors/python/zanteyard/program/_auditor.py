@@ -11,10 +11,11 @@ from collections import deque
 from collections.abc import Sequence
 from dataclasses import asdict
 
-from ..core._outcome import RATHER_LOSE_THE_AUDIT, VIOLATED, Outcome, Policy, kind_of
+from ..core._outcome import RATHER_LOSE_THE_AUDIT, Outcome, Policy, kind_of
 from ..core._own_keys import FORM, LARGE_FORM
 from ..core._records import Report, never_came
 from ..core._store_identity import AuditedStore, checked
+from ..core._verdict_kinds import Kind
 from ._window import Coverage
 from ..core.errors import AuditLostError, ProgramEndedError
 from ..journal._entries import Head
@@ -226,10 +227,10 @@ class Auditor(Intake):
             report = self.last_round()
         except Exception as error:
             self._lose(error)
-        if report is None or report.kind != VIOLATED:
+        if report is None or report.kind != Kind.VIOLATED:
             report = self.violation or report
         is_whole = self.taken_in >= self.handed_in
-        is_pending = report is not None and report.kind == "pending"
+        is_pending = report is not None and report.kind == Kind.PENDING
         pending = tuple(never_came(self.history, self.marks)) if is_pending else ()
         kind = kind_of(report, self.failure, is_whole)
         handed_in = max(self.handed_in, self.taken_in)

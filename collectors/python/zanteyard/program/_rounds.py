@@ -8,6 +8,7 @@ from contextlib import contextmanager
 from typing import Any
 
 from ..core._records import History, Report
+from ..core._verdict_kinds import Kind
 from ..core.errors import NoRoundError
 from ._lines import SECONDS, Lines, refusal_of, written
 from ._searched_round import COLLECT, EFFORTS, GUIDED, REPORT, SKIP, Effort, RoundCount
@@ -15,7 +16,6 @@ from ._searched_round import SearchedRound, pause_after
 from ._supervised import SupervisedProgram
 
 COLLECTED = b'["collect","wait"]'  # has the same reply whenever a script is replayed
-SPENT = "spent"  # nothing was decided
 
 
 class Rounds(Lines):
@@ -120,13 +120,13 @@ class Rounds(Lines):
         if reply is not None:
             report = Report(*reply[1:])
             number = self._round_count.reported(report.number)
-            if report.kind == SPENT and self._efforts:
+            if report.kind == Kind.SPENT and self._efforts:
                 self._search_next()
                 return
             self._report = report._replace(number=number)
         elif self._search.is_skipped:
             number = self._round_count.skipped(isinstance(self.program, SupervisedProgram))
-            self._report = Report(number, SPENT, self._begun_with)
+            self._report = Report(number, Kind.SPENT, self._begun_with)
         else:
             return
         self._search, self._may_be_open = None, False

@@ -17,6 +17,7 @@ from itertools import islice, takewhile
 from typing import Any
 
 from ..core._forks import is_forked
+from ..core._verdict_kinds import Kind
 from ..core.errors import JournalError, ProgramEndedError, ProgramLateError
 from ..journal._entries import Kept
 from ..journal._history import state_of
@@ -304,7 +305,7 @@ class SupervisedProgram:
             yield from self._begun_with(behind)
         self._lacks_cut = False
         reply = json.loads(answer)
-        if reply[2] == "violated":  # through later lines; the next round reports it
+        if reply[2] == Kind.VIOLATED:  # through later lines; the next round reports it
             self.keeping.note_violation([reply[0], self.keeping.rounds, *reply[2:]])
 
     def _begun_with(self, lines: list[bytes], *more: bytes) -> Answers:

@@ -3,6 +3,8 @@
 from collections.abc import Mapping
 from dataclasses import dataclass
 
+from ..core._verdict_kinds import Kind
+
 EVENTS = ("begin", "commit")  # follow a transaction's numbers in answers about snapshots
 
 
@@ -78,28 +80,28 @@ def stronger(promise: Promise) -> tuple[Promise, ...]:
 _SPENT = "undecided: the search ran out of its budget; this says nothing about the store"
 SENTENCES: Mapping[str, Mapping[str, str]] = {
     "serializable": {
-        "serial": "a serial order that keeps each session's order explains every read",
-        "pending": "serial so far, but a read names a transaction that hasn't arrived",
-        "violated": "no serial order that keeps each session's order explains these reads",
-        "spent": _SPENT,
+        Kind.SERIAL: "a serial order that keeps each session's order explains every read",
+        Kind.PENDING: "serial so far, but a read names a transaction that hasn't arrived",
+        Kind.VIOLATED: "no serial order that keeps each session's order explains these reads",
+        Kind.SPENT: _SPENT,
     },
     "strict": {
-        "serial": "a serial order that keeps each session's order and real-time order explains "
-        "every read",
-        "pending": "strictly serializable so far, but a read names a transaction that hasn't "
+        Kind.SERIAL: "a serial order that keeps each session's order and real-time order "
+        "explains every read",
+        Kind.PENDING: "strictly serializable so far, but a read names a transaction that hasn't "
         "arrived",
-        "violated": "no serial order that keeps each session's order and real-time order explains "
-        "these reads",
-        "spent": _SPENT,
+        Kind.VIOLATED: "no serial order that keeps each session's order and real-time order "
+        "explains these reads",
+        Kind.SPENT: _SPENT,
     },
     "snapshot": {
-        "serial": "an order of begins and commits that keeps each session's order satisfies "
+        Kind.SERIAL: "an order of begins and commits that keeps each session's order satisfies "
         "snapshot isolation",
-        "pending": "snapshot isolation holds so far, but a read names a transaction that hasn't "
-        "arrived",
-        "violated": "no order of begins and commits that keeps each session's order satisfies "
-        "snapshot isolation",
-        "spent": _SPENT,
+        Kind.PENDING: "snapshot isolation holds so far, but a read names a transaction that "
+        "hasn't arrived",
+        Kind.VIOLATED: "no order of begins and commits that keeps each session's order "
+        "satisfies snapshot isolation",
+        Kind.SPENT: _SPENT,
     },
 }
 

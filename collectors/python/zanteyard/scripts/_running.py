@@ -12,6 +12,7 @@ from typing import Any
 
 from ..core._own_keys import FENCE, FORM, LARGE_FORM
 from ..core._records import ABORTED, AuditId, Logged, Pending, never_came
+from ..core._verdict_kinds import Kind
 from ..program._tenancy import Tenancy
 from ..core.errors import (
     CantBeAskedError,
@@ -332,7 +333,7 @@ class ScriptRun:
         """The verdict. A round that was spent is repeated with larger budgets."""
         rounds = 1
         for more, depth, workers in MORE:
-            if reply[2] != "spent":
+            if reply[2] != Kind.SPENT:
                 break
             if nodes < more <= self.most_nodes:
                 nodes, rounds, self._has_more = more, rounds + 1, False
@@ -344,9 +345,9 @@ class ScriptRun:
     def _without_times(self, verdict: Verdict) -> Verdict:
         """The verdict, with "serial" for a pending one in which no read waits for a transaction:
         the real-time order alone doesn't count."""
-        is_by_time = self.promise.is_timed and verdict.kind == "pending"
+        is_by_time = self.promise.is_timed and verdict.kind == Kind.PENDING
         if is_by_time and not any(self.history.pending()):
-            return replace(verdict, kind="serial")
+            return replace(verdict, kind=Kind.SERIAL)
         return verdict
 
     def _ask_for(self, *words: Any) -> list[Any]:

@@ -11,6 +11,7 @@ from dataclasses import dataclass
 from typing import Any
 
 from ..core._outcome import RATHER_WAIT, Outcome
+from ..core._verdict_kinds import Kind
 from ..core.errors import AbortedError, OutcomeUnknownError
 from ..explain._anomalies import find_anomaly
 from ..explain._reasons import explain_history
@@ -213,11 +214,11 @@ def run_lockstep(
         outcome = auditor.outcome()
         history = auditor.history
         ended = [[logged.outcome for logged in transactions] for transactions in history]
-        anomaly = find_anomaly(history) if outcome.kind == "violated" else None
+        anomaly = find_anomaly(history) if outcome.kind == Kind.VIOLATED else None
         lines = [*_told(auditor, outcome)] if tells else []
     named = anomaly.name if anomaly is not None else ""
     broken: Sequence[Promise] = ()
-    if asks_promises and outcome.kind == "violated":
+    if asks_promises and outcome.kind == Kind.VIOLATED:
         broken = standing(history, PROGRAM, seconds=ASKING).broken
     return Seen(outcome.kind, named, ended, lines, broken)
 
@@ -226,7 +227,7 @@ def _told(auditor: Auditor, outcome: Outcome) -> Iterator[str]:
     for session, transactions in enumerate(auditor.history):
         for number, logged in enumerate(transactions):
             yield f"  {session}.{number} {logged.outcome}"
-    if outcome.kind == "violated":
+    if outcome.kind == Kind.VIOLATED:
         explanation = explain_history(auditor.history, plain_name)
         yield from story_lines(story_of(auditor.history, plain_name, explanation))
     else:

@@ -6,6 +6,7 @@ from collections.abc import Callable, Mapping, Sequence
 from typing import Any
 
 from ..core._outcome import RATHER_WAIT
+from ..core._verdict_kinds import Kind
 from ..explain._anomalies import find_anomaly
 from ..explain._audited import from_start, refuted
 from ..explain._shrinking import smaller
@@ -44,18 +45,18 @@ def run_at_once(
     with Auditor(len(stores), MOST, policy=RATHER_WAIT) as auditor:
         sessions = [Session(auditor, number, Slow(store)) for number, store in enumerate(stores)]
         ends = time.monotonic() + seconds
-        kind = "serial"
-        while kind == "serial" and time.monotonic() < ends and auditor.remaining < 0.9 * MOST:
+        kind: str = Kind.SERIAL
+        while kind == Kind.SERIAL and time.monotonic() < ends and auditor.remaining < 0.9 * MOST:
             clients = Clients(sessions, EVERY_WORKLOAD[workload], PART, lambda: False, RATE)
             if clients.failures:
                 raise clients.failures[0]
             report = auditor.round()
             kind = report.kind
-        if kind != "violated":
+        if kind != Kind.VIOLATED:
             kind = auditor.outcome().kind  # incomplete if something wasn't audited
         outcomes = [[logged.outcome for logged in txns] for txns in auditor.history]
         named = ""
-        if kind == "violated" and names_it:
+        if kind == Kind.VIOLATED and names_it:
             history, _ = from_start(auditor)
             known = refuted(auditor, report.certificate)
             anomaly = find_anomaly(smaller(history, seconds=SHRINKING, known=known))

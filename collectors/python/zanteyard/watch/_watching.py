@@ -20,6 +20,7 @@ from .violations._pending import waiting_reads
 from .violations._redacting import without_values
 from .violations._found import Found, found_in
 from ..core._stopping import STOPS
+from ..core._verdict_kinds import Kind
 
 OK, REPORT, CUT = b'["ok"]', b'["report",', b'["cut",'
 GONE = "gone"  # an event of this program: the proxy has ended
@@ -162,10 +163,10 @@ class Watching:
             "round %d: %s; %d transactions, %d of them held in memory; %.1f s behind",
             number, word_of(kind, self.auditing.promise), seen.taken, seen.remaining, seen.behind,
         )
-        if kind == "pending" and now >= self._looked_at + PENDING:
+        if kind == Kind.PENDING and now >= self._looked_at + PENDING:
             self._looked_at = now
             self.board.waits(*waiting_reads(self.auditing.kept().transactions, counts))
-        return bool(kind == "violated")
+        return bool(kind == Kind.VIOLATED)
 
     def _cut(self, is_cut: bool) -> None:
         """Notes what is forgotten. Sessions may have joined, too."""
@@ -212,7 +213,7 @@ class Watching:
     def _tell_violations(self, found: Found) -> None:
         count = len(found.held)
         self.board.finds(count)
-        sentence = self.auditing.promise.sentence("violated")
+        sentence = self.auditing.promise.sentence(Kind.VIOLATED)
         more = f" ({count} times)" if count > 1 else ""
         logger.error("VIOLATED: %s%s; explanation follows", sentence, more)
         self.explaining.begin(

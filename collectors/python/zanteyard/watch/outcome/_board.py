@@ -7,6 +7,7 @@ from collections.abc import Mapping, Sequence
 from dataclasses import replace
 from typing import Any
 
+from ...core._verdict_kinds import Kind
 from ...explain._charts import RoundSeen
 from ...promises._kinds import SERIALIZABLE, Promise
 from ._feed import listed, number, seen_of, text, whole
@@ -106,7 +107,7 @@ class Board:
             seen = RoundSeen(now - status.began, kind, remaining, behind, sum(counts))
             self._rounds.append(seen)
             self._kinds[kind] = self._kinds.get(kind, 0) + 1
-            more = {"pending": (), "pending_count": 0} if kind != "pending" else {}
+            more = {"pending": (), "pending_count": 0} if kind != Kind.PENDING else {}
             self._note(
                 kind=kind,
                 rounds_count=status.rounds_count + 1,
@@ -144,30 +145,36 @@ class Board:
     def violation(self, one: Violation) -> None:
         """Adds a violation that has been explained."""
         with self._turn:
-            its = self._violations
-            its.append(one)
-            its.sort(key=lambda it: it.number)
-            while len(its) > VIOLATIONS:
-                del its[VIOLATIONS // 2]
+            kept = self._violations
+            kept.append(one)
+            kept.sort(key=lambda it: it.number)
+            while len(kept) > VIOLATIONS:
+                del kept[VIOLATIONS // 2]
 
     def ended(self, reason: str, is_lost: bool = True) -> None:
         """Notes that the audit has ended, with the verdict of its last round."""
         with self._turn:
             status = self._status
-            its = (status.kind, status.rounds_count, reason, time.time(), is_lost)
-            over = Ended(status.audit, *its)
+            kind, rounds = status.kind, status.rounds_count
+            over = Ended(status.audit, kind, rounds, reason, time.time(), is_lost)
             self._note(ended=(*status.ended[-49:], over), is_over=True)
 
     def begins_anew(self) -> None:
         """Begins another audit, of which nothing is known yet."""
         with self._turn:
-            its = {"is_over": False, "kind": "running", "pending": (), "pending_count": 0}
             last = self._status.seen
             last = replace(last, totals=last.totals.closed())
             earlier = added(self._status.earlier_seen, last)
             self._met = 0.0
             self._note(
-                audit=self._status.audit + 1, seen=Seen(), earlier_seen=earlier, remaining=0, **its
+                audit=self._status.audit + 1,
+                kind=Kind.RUNNING,
+                is_over=False,
+                seen=Seen(),
+                earlier_seen=earlier,
+                remaining=0,
+                pending=(),
+                pending_count=0,
             )
 
     def note(self, told: str) -> None:

@@ -11,6 +11,7 @@ from ..violations._groups import lines_of_groups
 from ._remedies import with_remedy
 from ._state import Seen, Status
 from ...core._numbers import counted
+from ...core._verdict_kinds import Kind
 from ._totals import Totals
 from ..violations._violations import Violation
 
@@ -35,15 +36,17 @@ NAMES: Mapping[str, str] = {
 def kind_of(status: Status) -> str:
     """The verdict over the whole run; "nothing" if nothing was checked."""
     kind = status.whole_kind
-    if kind in ("serial", "pending", "running") and status.whole_seen.is_nothing:
-        return "nothing"
-    return {"spent": "undecided", "running": "incomplete"}.get(kind, kind)
+    if kind in (Kind.SERIAL, Kind.PENDING, Kind.RUNNING) and status.whole_seen.is_nothing:
+        return Kind.NOTHING
+    if kind == Kind.SPENT:
+        return Kind.UNDECIDED
+    return Kind.INCOMPLETE if kind == Kind.RUNNING else kind
 
 
 def word_of(kind: str, promise: Promise) -> str:
     """The verdict for people: "kept" if it is about another promise, since such a history may not
     be serial."""
-    return "kept" if kind == "serial" and promise != SERIALIZABLE else kind
+    return "kept" if kind == Kind.SERIAL and promise != SERIALIZABLE else kind
 
 
 def status_of(status: Status) -> int:
@@ -57,7 +60,7 @@ def status_of(status: Status) -> int:
 def lines_of(status: Status) -> Iterator[str]:
     """The outcome at the end of a run."""
     kind, seen = kind_of(status), status.whole_seen
-    if kind == "nothing" and not seen.totals.transactions.all:
+    if kind == Kind.NOTHING and not seen.totals.transactions.all:
         yield from _nothing(status)
         return
     rounds = counted(status.rounds_count, "round")
@@ -65,18 +68,18 @@ def lines_of(status: Status) -> Iterator[str]:
     about = "" if status.promise == SERIALIZABLE else f" for {status.promise.title}"
     totals = seen.totals.closed()
     word = word_of(kind, status.promise)
-    why = too_little(totals) if kind in ("serial", "pending") else ""
+    why = too_little(totals) if kind in (Kind.SERIAL, Kind.PENDING) else ""
     how = ", but too little was looked at" if why else ""
-    if kind == "violated":
+    if kind == Kind.VIOLATED:
         how = _by_level(status)
     yield f"{word}{how}: {shares(totals)} were checked{about}, in {rounds}{audits}"
     if why:
         yield f"  {why}"
     yield from (f"  {line}" for line in totals.level_lines())
     if status.new_count:
-        its = counted(status.new_count, "violation")
+        violations = counted(status.new_count, "violation")
         names = ", ".join(sorted({one.title for one in status.violations}))
-        yield f"  {its} found" + (f": {names}" if names else "")
+        yield f"  {violations} found" + (f": {names}" if names else "")
         yield from (f"  {line}" for line in _allowed(status.violations))
         yield from (f"  {line}" for line in status.standing.lines())
     yield from (f"  {line}" for line in lines_of_groups(status.groups, status.ungrouped))
@@ -108,12 +111,12 @@ def _before(status: Status) -> Iterator[str]:
 def too_little(totals: Totals) -> str:
     """Why it says little that there is no violation: a write that was checked is in each. Empty if
     one was."""
-    its = totals.rows_written
-    if its.checked or its.partly or its.waiting:
+    written = totals.rows_written
+    if written.checked or written.partly or written.waiting:
         return ""
-    if not its.all:
+    if not written.all:
         return "no row was written through the proxy, and without a write there is no violation"
-    rows = counted(its.all, "written row")
+    rows = counted(written.all, "written row")
     return f"of {rows} none was checked, and without a write there is no violation"
 
 
@@ -121,12 +124,12 @@ def _by_level(status: Status) -> str:
     """Whether PostgreSQL allows these violations at the levels of their transactions, as a part of
     the first line; empty if that isn't known of all. The first one of each shape at each level was
     explained."""
-    its = [one.ruling for one in status.violations]
-    refused = sorted({one[0] for one in its if one is not None and not one[1]})
+    rulings = [one.ruling for one in status.violations]
+    refused = sorted({one[0] for one in rulings if one is not None and not one[1]})
     if refused:
         return f", which {refused[-1]} doesn't allow"
-    levels = sorted({one[0] for one in its if one is not None})
-    if not levels or None in its or status.ungrouped:
+    levels = sorted({one[0] for one in rulings if one is not None})
+    if not levels or None in rulings or status.ungrouped:
         return ""
     return f", which {' and '.join(levels)} allow{'s' if len(levels) == 1 else ''}"
 
@@ -143,7 +146,7 @@ def _allowed(violations: Sequence[Violation]) -> Iterator[str]:
 def shares(totals: Totals) -> str:
     """How much was checked in full: "20 of 52 transactions, 71 of 90 SELECTs and 10 of 61 written
     rows"."""
-    its = [
+    parts = [
         f"{one.checked:,} of {one.all:,} {what}"
         for one, what in (
             (totals.transactions, "transactions"),
@@ -152,13 +155,15 @@ def shares(totals: Totals) -> str:
         )
         if one.all
     ]
-    return " and ".join([", ".join(its[:-1]), its[-1]] if its[1:] else its) or "no transaction"
+    if len(parts) > 1:
+        parts = [", ".join(parts[:-1]), parts[-1]]
+    return " and ".join(parts) or "no transaction"
 
 
 def least_share(totals: Totals) -> float:
     """The smallest of the shares that were checked in full, in percent."""
-    its = (totals.transactions, totals.selects, totals.rows_written)
-    return min((100 * one.checked / one.all for one in its if one.all), default=0.0)
+    shared = (totals.transactions, totals.selects, totals.rows_written)
+    return min((100 * one.checked / one.all for one in shared if one.all), default=0.0)
 
 
 def _table(totals: Totals) -> Iterator[str]:
@@ -192,8 +197,8 @@ def _nothing(status: Status) -> Iterator[str]:
     if not seen.connections_ever:
         yield f"nothing was checked: no application connected to {named} through the proxy"
     else:
-        its = counted(seen.connections_ever, "connection")
-        yield f"nothing was checked: the audit saw no row that {its} to {named} read or wrote"
+        who = f"{counted(seen.connections_ever, 'connection')} to {named}"
+        yield f"nothing was checked: the audit saw no row that {who} read or wrote"
     yield from (f"  {line}" for line in _before(status))
     yield from _shapes(seen)
 

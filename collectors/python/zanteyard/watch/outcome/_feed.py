@@ -134,28 +134,28 @@ def seen_of(event: Mapping[str, Any]) -> Seen:
     )
 
 
-def conditions_of(its: Mapping[str, Any]) -> Conditions:
+def conditions_of(conditions: Mapping[str, Any]) -> Conditions:
     """The conditions in an event."""
     return Conditions(
-        whole(its.get("seen")),
-        whole(its.get("followed")),
-        whole(its.get("passed_over")),
-        reasons(its.get("left_out")),
-        reasons(its.get("rows_left_out")),
-        whole(its.get("dropped")),
+        whole(conditions.get("seen")),
+        whole(conditions.get("followed")),
+        whole(conditions.get("passed_over")),
+        reasons(conditions.get("left_out")),
+        reasons(conditions.get("rows_left_out")),
+        whole(conditions.get("dropped")),
     )
 
 
-def totals_of(its: Mapping[str, Any]) -> Totals:
+def totals_of(totals: Mapping[str, Any]) -> Totals:
     """The totals in an event."""
-    selects, rows = table(its.get("selects")), table(its.get("rows_read"))
-    others = table(its.get("without_the_proxy"))
+    selects, rows = table(totals.get("selects")), table(totals.get("rows_read"))
+    others = table(totals.get("without_the_proxy"))
     return Totals(
-        **{name: _total(table(its.get(name))) for name, _ in Totals().named()},
+        **{name: _total(table(totals.get(name))) for name, _ in Totals().named()},
         by_condition=whole(selects.get("by_condition")),
         found_no_row=whole(selects.get("found_no_row")),
-        only_read=whole(table(its.get("transactions")).get("only_read")),
-        other_statements=whole(its.get("other_statements")),
+        only_read=whole(table(totals.get("transactions")).get("only_read")),
+        other_statements=whole(totals.get("other_statements")),
         own=whole(rows.get("own")),
         from_before=whole(rows.get("from_before")),
         of_unchecked=whole(rows.get("of_unchecked")),
@@ -163,45 +163,45 @@ def totals_of(its: Mapping[str, Any]) -> Totals:
         others_rows=whole(others.get("rows_written")),
         untold=whole(others.get("untold")),
         bypassed=whole(others.get("of_these_at_least")),
-        levels=reasons(table(its.get("transactions")).get("levels")),
+        levels=reasons(table(totals.get("transactions")).get("levels")),
     )
 
 
-def _total(its: Mapping[str, Any]) -> Total:
+def _total(total: Mapping[str, Any]) -> Total:
     return Total(
-        whole(its.get("all")),
-        whole(its.get("checked")),
-        reasons(its.get("in_part")),
-        reasons(its.get("not_checked")),
-        whole(its.get("waiting")),
-        whole(its.get("rolled_back")),
+        whole(total.get("all")),
+        whole(total.get("checked")),
+        reasons(total.get("in_part")),
+        reasons(total.get("not_checked")),
+        whole(total.get("waiting")),
+        whole(total.get("rolled_back")),
     )
 
 
-def _others(its: object) -> Others | None:
-    if not isinstance(its, dict):
+def _others(others: object) -> Others | None:
+    if not isinstance(others, dict):
         return None
-    proxies = tuple(_other(table(one)) for one in listed(its.get("proxies")))
-    return Others(proxies, whole(its.get("refused")), text(its.get("down")))
+    proxies = tuple(_other(table(one)) for one in listed(others.get("proxies")))
+    return Others(proxies, whole(others.get("refused")), text(others.get("down")))
 
 
-def _other(its: Mapping[str, Any]) -> OtherProxy:
+def _other(proxy: Mapping[str, Any]) -> OtherProxy:
     return OtherProxy(
-        text(its.get("name")),
-        its.get("feeds") is True,
-        whole(its.get("connections")),
-        whole(its.get("transactions")),
-        number(its.get("silent")),
+        text(proxy.get("name")),
+        proxy.get("feeds") is True,
+        whole(proxy.get("connections")),
+        whole(proxy.get("transactions")),
+        number(proxy.get("silent")),
     )
 
 
-def _shape(its: Mapping[str, Any]) -> Shape:
+def _shape(shape: Mapping[str, Any]) -> Shape:
     return Shape(
-        text(its.get("shape")),
-        text(its.get("reason")),
-        whole(its.get("count")),
-        its.get("reads") is not False,
-        number(its.get("first")),
+        text(shape.get("shape")),
+        text(shape.get("reason")),
+        whole(shape.get("count")),
+        shape.get("reads") is not False,
+        number(shape.get("first")),
     )
 
 
@@ -258,18 +258,17 @@ def _statements(one: Mapping[str, Any]) -> tuple[Statement, ...]:
     return tuple(replace(it, reads=tuple(its)) for it, its in zip(found, reads))
 
 
-def _statement(its: Mapping[str, Any]) -> Statement:
-    parameters = its.get("parameters")
+def _statement(statement: Mapping[str, Any]) -> Statement:
+    parameters = statement.get("parameters")
     values: tuple[str | None, ...] | None = None
     if isinstance(parameters, list):
         values = tuple(None if it is None else str(it) for it in parameters)
-    file, line = text(its.get("file")), its.get("line")
+    file, line = text(statement.get("file")), statement.get("line")
     where = f"{file}:{line}" if file and line is not None else file
-    unseen = tuple(text(it) for it in listed(its.get("unseen")))
-    more = whole(its.get("more_parameters"))
-    return Statement(
-        text(its.get("text")), values, number(its.get("at")), unseen, where, more_parameters=more
-    )
+    unseen = tuple(text(it) for it in listed(statement.get("unseen")))
+    more = whole(statement.get("more_parameters"))
+    written, at = text(statement.get("text")), number(statement.get("at"))
+    return Statement(written, values, at, unseen, where, more_parameters=more)
 
 
 def command(name: str, **more: Any) -> bytes:

@@ -10,6 +10,7 @@ from ...explain._standing import Standing
 from ...promises._kinds import ALL, SERIALIZABLE, Promise
 from ..violations._groups import Group
 from ...core._numbers import counted
+from ...core._verdict_kinds import Kind
 from ._totals import Conditions, Totals
 from ..violations._violations import Violation
 
@@ -88,36 +89,36 @@ class Seen:
     @property
     def is_nothing(self) -> bool:
         """Whether nothing was checked at all."""
-        its = self.totals.transactions
-        return not (its.checked or its.in_part)
+        transactions = self.totals.transactions
+        return not (transactions.checked or transactions.in_part)
 
     def more_lines(self) -> Iterator[str]:
         """Sentences about what the shares don't say: what SELECTs asked for, and what the versions
         of checked rows were."""
-        its = self.totals
+        totals = self.totals
         yield from self.conditions.lines()
-        if its.by_condition and not self.conditions.seen:
-            asked = counted(its.by_condition, "SELECT")
+        if totals.by_condition and not self.conditions.seen:
+            asked = counted(totals.by_condition, "SELECT")
             yield (
                 f"{asked} didn't ask by one whole key: rows passed over, or not there yet "
                 "(phantoms), weren't checked"
             )
-        if its.found_no_row:
-            yield f"{counted(its.found_no_row, 'SELECT')} found no row"
+        if totals.found_no_row:
+            yield f"{counted(totals.found_no_row, 'SELECT')} found no row"
         for count, what in (
-            (its.from_before, "were in a version from before the audit"),
-            (its.of_unchecked, "were in a version that an unchecked transaction wrote"),
-            (its.own, "had been written by the transaction that read them"),
+            (totals.from_before, "were in a version from before the audit"),
+            (totals.of_unchecked, "were in a version that an unchecked transaction wrote"),
+            (totals.own, "had been written by the transaction that read them"),
         ):
             if count:
                 yield f"{count:,} of the checked rows {what}"
-        if its.only_read * 20 >= its.transactions.all + its.only_read:
-            told = f"{its.only_read:,} of those that were rolled back"
+        if totals.only_read * 20 >= totals.transactions.all + totals.only_read:
+            told = f"{totals.only_read:,} of those that were rolled back"
             yield f"{told} had only read: --rollbacks checks such transactions"
-        if its.other_statements:
-            told = counted(its.other_statements, "more statement")
+        if totals.other_statements:
+            told = counted(totals.other_statements, "more statement")
             yield f"{told} defined something, called a procedure or the like: not looked into"
-        yield from its.bypassing()
+        yield from totals.bypassing()
         if self.bare:
             told = counted(self.bare, "more commit")
             yield f"{told} had no row, such as those of the server's own ANALYZE"
@@ -155,7 +156,7 @@ class Status:
     subtransactions: str = ""  # how they are resolved
     audit: int = 1
     has_begun: bool = False  # the first one, or a later one
-    kind: str = "running"
+    kind: str = Kind.RUNNING
     is_over: bool = False  # nothing is audited at the moment
     ended: tuple[Ended, ...] = ()
     seen: Seen = field(default_factory=Seen)
@@ -201,9 +202,9 @@ class Status:
         """The verdict over all audits so far: "violated" if there was a violation, "incomplete" if
         an audit ended early, and else the current audit's."""
         if self.new_count:
-            return "violated"
+            return Kind.VIOLATED
         if self.is_over or any(one.is_lost for one in self.ended):
-            return "incomplete"
+            return Kind.INCOMPLETE
         return self.kind
 
     @property
@@ -232,8 +233,8 @@ def added(one: Seen, other: Seen) -> Seen:
     shapes = {(it.shape, it.reason, it.is_reads): it for it in one.shapes}
     for it in other.shapes:
         known = shapes.get((it.shape, it.reason, it.is_reads))
-        its = it if known is None else replace(known, count=known.count + it.count)
-        shapes[(it.shape, it.reason, it.is_reads)] = its
+        both = it if known is None else replace(known, count=known.count + it.count)
+        shapes[(it.shape, it.reason, it.is_reads)] = both
     return replace(
         other, **adds, totals=totals, conditions=conditions, shapes=tuple(shapes.values())
     )

@@ -42,8 +42,8 @@ class Total:
     def closed(self) -> "Total":
         """The same once no round follows: what waited isn't checked."""
         waited = {WAITS: self.waiting} if self.waiting else {}
-        its = (self.all, self.checked, self.in_part, both(self.not_checked, waited))
-        return Total(*its, 0, self.rolled_back)
+        unchecked = both(self.not_checked, waited)
+        return Total(self.all, self.checked, self.in_part, unchecked, 0, self.rolled_back)
 
     def values(self) -> dict[str, Any]:
         """As JSON has it."""
@@ -91,14 +91,14 @@ class Conditions:
             f"{counted(self.seen, 'condition')} of statements, {self.followed:,} followed: "
             f"{counted(self.passed_over, 'row')} that they passed over were checked, too"
         )
-        for its, one, rest in (
+        for counts, what, rest in (
             (self.left_out, "condition", "not followed"),
             (self.rows_left_out, "row", "that may have been passed over, not checked"),
         ):
-            told = sorted(its.items(), key=lambda one: -one[1])
-            if told:
-                why = "; ".join(f"{reason} {count:,}" for reason, count in told)
-                yield f"{counted(sum(its.values()), one)} {rest}: {why}"
+            if counts:
+                reasons = sorted(counts.items(), key=lambda one: -one[1])
+                why = "; ".join(f"{reason} {count:,}" for reason, count in reasons)
+                yield f"{counted(sum(counts.values()), what)} {rest}: {why}"
 
 
 @dataclass(frozen=True)
@@ -135,9 +135,9 @@ class Totals:
     def reasons(self, is_part: bool) -> Iterator[tuple[str, int, str]]:
         """What wasn't checked, or only in part: of which total, how many, and why."""
         for name, total in self.named():
-            its = total.in_part if is_part else total.not_checked
-            for why in sorted(its, key=its.__getitem__, reverse=True):
-                yield name, its[why], why
+            counts = total.in_part if is_part else total.not_checked
+            for why in sorted(counts, key=counts.__getitem__, reverse=True):
+                yield name, counts[why], why
 
     def plus(self, other: "Totals") -> "Totals":
         def added(one: Any, another: Any) -> Any:
@@ -145,8 +145,8 @@ class Totals:
                 return one.plus(another)
             return both(one, another) if isinstance(one, Mapping) else one + another
 
-        its = vars(other)
-        return Totals(**{name: added(mine, its[name]) for name, mine in vars(self).items()})
+        theirs = vars(other)
+        return Totals(**{name: added(mine, theirs[name]) for name, mine in vars(self).items()})
 
     def closed(self) -> "Totals":
         """The same once no round follows."""
@@ -159,11 +159,11 @@ class Totals:
 
     def level_lines(self) -> Iterator[str]:
         """At which isolation levels the transactions ran, most frequent first."""
-        its = sorted(self.levels.items(), key=lambda one: -one[1])
-        if len(its) == 1:
-            yield f"all that committed ran at {level_named(its[0][0])}"
-        elif its:
-            told = [f"{count:,} at {level_named(level)}" for level, count in its]
+        counts = sorted(self.levels.items(), key=lambda one: -one[1])
+        if len(counts) == 1:
+            yield f"all that committed ran at {level_named(counts[0][0])}"
+        elif counts:
+            told = [f"{count:,} at {level_named(level)}" for level, count in counts]
             yield f"{', '.join(told[:-1])} and {told[-1]}"
 
     def bypassing(self) -> Iterator[str]:

@@ -13,17 +13,18 @@ from ..outcome._remedies import remedy_for
 from ..outcome._state import MOST_SHAPES, Shape, Status
 from ._style import EVERY_WITHOUT, SCRIPT, STYLE
 from ...core._numbers import counted
+from ...core._verdict_kinds import Kind
 from ..violations._violations import Violation
 from ._web import policy_for
 
 POLICY = policy_for(STYLE, SCRIPT)
 HEADINGS: Mapping[str, str] = {
-    "running": "Nothing has been checked yet",
-    "serial": "No violation so far",
-    "pending": "No violation so far; some reads are still waiting",
-    "spent": "The last round was undecided",
-    "incomplete": "No violation so far; something wasn't checked",
-    "violated": "No serial order explains what the transactions read",
+    Kind.RUNNING: "Nothing has been checked yet",
+    Kind.SERIAL: "No violation so far",
+    Kind.PENDING: "No violation so far; some reads are still waiting",
+    Kind.SPENT: "The last round was undecided",
+    Kind.INCOMPLETE: "No violation so far; something wasn't checked",
+    Kind.VIOLATED: "No serial order explains what the transactions read",
     "broken": "The transactions violate snapshot isolation",
 }
 SHOWN = 40  # waiting reads
@@ -88,7 +89,7 @@ def _state(status: Status) -> Iterator[str]:
 
 def _sentences(status: Status) -> Iterator[str]:
     if status.new_count:
-        found = HEADINGS["broken" if status.promise.is_split else "violated"]
+        found = HEADINGS["broken" if status.promise.is_split else Kind.VIOLATED]
         yield f"{found}. {_where_explained(status)}"
     elif status.rounds_count:
         order = "An order of begins and commits satisfies snapshot isolation for"

@@ -4,6 +4,7 @@ the proxy, or of collectors."""
 from collections.abc import Callable, Iterable, Iterator, Mapping, Sequence
 from dataclasses import dataclass
 
+from ...core._verdict_kinds import Kind
 from ...core._version import VERSION
 from ...core._visible import shown
 from ._web import TEXT as PLAIN
@@ -13,7 +14,7 @@ TEXT = "text/plain; version=0.0.4; charset=utf-8"
 Labels = tuple[tuple[str, object], ...]
 Sample = tuple[Labels, float]
 Family = tuple[str, str, str, Sequence[Sample]]  # name, kind, help text, samples
-KINDS = ("serial", "pending", "violated", "spent")  # of rounds
+KINDS = (Kind.SERIAL, Kind.PENDING, Kind.VIOLATED, Kind.SPENT)  # of rounds
 
 
 @dataclass(frozen=True)
@@ -39,7 +40,7 @@ class Common:
         labels = (("version", VERSION), *self.labels)
         about = "The audit's name and the version of this program."
         yield "zanteyard_info", "gauge", about, [(labels, 1)]
-        rounds = {kind: self.rounds.get(kind, 0) for kind in KINDS}
+        rounds = {str(kind): self.rounds.get(kind, 0) for kind in KINDS}
         yield by("rounds_total", "counter", "Rounds, by verdict.", "kind", rounds)
         for name, kind, about, value in (
             ("transactions_taken_total", "counter", "Transactions that the auditor has accepted.",

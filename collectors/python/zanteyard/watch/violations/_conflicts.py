@@ -15,11 +15,11 @@ from dataclasses import dataclass
 from typing import Any, NamedTuple
 
 from ...core._records import ABORTED, AuditId
+from ...explain._arcs import ArcKind
 from ...promises._asking import ids_of
 from ...promises._kinds import Promise
 from ._kept import Kept, OneRead, Transaction, all_reads
 
-SESSION, READ, READ_BEFORE = "session", "read", "read before"
 SECONDS = 2.0  # seconds for listing the violations of one round
 Node = tuple[AuditId, bool]  # a transaction, or its begin (False) and its commit (True)
 Version = tuple[Any, ...]  # (key, "init") or (key, session, number)
@@ -31,15 +31,15 @@ class Edge(NamedTuple):
 
     one: AuditId
     other: AuditId
-    kind: str
+    kind: ArcKind
     version: Version = ()
 
     @property
     def reads(self) -> tuple[OneRead, ...]:
         """The reads that it rests on."""
-        if self.kind == READ:
+        if self.kind == ArcKind.READ:
             return ((self.other, self.version),)
-        if self.kind == READ_BEFORE:
+        if self.kind == ArcKind.READ_BEFORE:
             return (self.one, self.version), (self.other, self.version)
         return ()
 
@@ -77,7 +77,7 @@ class Cycle:
         for edge in self.edges:
             for one, version in edge.reads:
                 read(one, version)
-            if edge.kind == READ_BEFORE:
+            if edge.kind == ArcKind.READ_BEFORE:
                 wrote(edge.other, edge.version[0])
         return found
 
@@ -205,9 +205,10 @@ class _Conflicts:
         before: AuditId | None = None
         for one, its in sorted(transactions.items()):
             if self._is_split:
-                self._next[self._begin(one)].append((self._commit(one), Edge(one, one, SESSION)))
+                itself = Edge(one, one, ArcKind.IN_SESSION)
+                self._next[self._begin(one)].append((self._commit(one), itself))
             if before is not None and before[0] == one[0]:
-                self._add(Edge(before, one, SESSION))
+                self._add(Edge(before, one, ArcKind.IN_SESSION))
             before = one
             if ABORTED in its:
                 continue
@@ -221,17 +222,17 @@ class _Conflicts:
                 writer = AuditId((version[1], version[2]))
                 if version[0] in transactions.get(writer, ([], []))[1]:
                     for one in readers:
-                        self._add(Edge(writer, one, READ, version))
+                        self._add(Edge(writer, one, ArcKind.READ, version))
             writers = sorted(replaced[version], key=lambda one: (one, version) not in self._own)
             for one in readers:
                 for other in writers:
                     if other != one:
-                        self._add(Edge(one, other, READ_BEFORE, version))
+                        self._add(Edge(one, other, ArcKind.READ_BEFORE, version))
         for its_next in self._next.values():  # a cycle without session order shows more
-            its_next.sort(key=lambda it: it[1].kind == SESSION)
+            its_next.sort(key=lambda it: it[1].kind == ArcKind.IN_SESSION)
 
     def _add(self, edge: Edge) -> None:
-        if edge.kind == READ_BEFORE:
+        if edge.kind == ArcKind.READ_BEFORE:
             ends = self._begin(edge.one), self._commit(edge.other)
             self._by_read[(edge.one, edge.version)].append(edge)
         else:

@@ -8,6 +8,7 @@ from typing import Any
 from ...core._own_keys import FENCE
 from ...core._records import ABORTED, AuditId, History, Logged, Read, ShownId, Source
 from ...core._visible import visible
+from ...explain._arcs import ArcKind
 from ...explain._audited import audited_apart, from_start, named, refuted
 from ...explain._reasons import explanation_of
 from ...explain._report import Story, story_lines, story_of
@@ -16,7 +17,7 @@ from ...explain._standing import by_reads, standing
 from ...explain._words import version
 from ...promises._asking import ids_of
 from ...promises._kinds import SERIALIZABLE, SNAPSHOT, Promise
-from ._conflicts import READ_BEFORE, Cycle
+from ._conflicts import Cycle
 from ._described import Described, by_time, clock, lines_of
 from ._kept import Kept, Transaction
 from ._sql_anomalies import (
@@ -289,7 +290,7 @@ def _lost_in(cycle: Cycle, transactions: Mapping[AuditId, Transaction]) -> RowUp
     if len(cycle.ids) != 2:
         return None
     for edge in cycle.edges:
-        if edge.kind == READ_BEFORE and edge.version[0] in transactions[edge.one][1]:
+        if edge.kind == ArcKind.READ_BEFORE and edge.version[0] in transactions[edge.one][1]:
             return RowUpdate(edge.version[0], edge.version[1:], edge.other, edge.one)
     return None
 
