@@ -8,11 +8,12 @@ import "strconv"
 
 // derived is a subquery in FROM, or a part of WITH that FROM names.
 type derived struct {
-	query  node
-	alias  node
-	at     place
-	place  int       // among the items of FROM, from 1
-	common *withPart // nil for a subquery
+	query   node
+	alias   node
+	at      place
+	place   int       // among the items of FROM, from 1
+	common  *withPart // nil for a subquery
+	lateral bool      // its names may mean what is around it
 	// inner is its own FROM clause, nil if its rows aren't seen. found are its tables.
 	inner *fromClause
 	// carried means that a star, which is the last column of the query around it, has its columns at the end.
@@ -25,7 +26,7 @@ const aSubqueryInFrom = "a subquery in FROM"
 // open decides which of the subqueries in FROM are seen.
 func (f *fromClause) open(body node, rows bool) {
 	for _, d := range f.derived {
-		is := rows && len(f.group) == 0 && !f.maker.prepared && f.plain(d) && f.reaches(d, body)
+		is := rows && f.depth < mostDeep && len(f.group) == 0 && !f.maker.prepared && f.plain(d) && f.reaches(d, body)
 		switch {
 		case d.common != nil && is && !(d.carried && d.common.refs > 1):
 			d.common.opened++
@@ -37,6 +38,7 @@ func (f *fromClause) open(body node, rows bool) {
 			f.enter(d)
 		}
 	}
+	f.bounds()
 }
 
 // opens reports whether any of them is.
@@ -49,15 +51,31 @@ func (f *fromClause) opens() bool {
 	return false
 }
 
-// size returns how many items FROM has, with those of subqueries that are seen.
-func (f *fromClause) size() int {
-	size := f.items
+// mostItems is how many items FROM may have, with those of subqueries that are seen: what a part of WITH has counts each time
+// that FROM names it, there and in the parts that name it. A text may have as many as two to the power of its parts.
+const mostItems = 64
+
+// mostDeep is how deep subqueries in FROM may be in one another to be seen: what is in them is read once for each.
+const mostDeep = 8
+
+// bounds counts all items. If there are too many, no subquery is seen.
+func (f *fromClause) bounds() {
+	f.size = f.items
 	for _, d := range f.derived {
 		if d.inner != nil {
-			size += d.inner.size()
+			f.size += d.inner.size
 		}
 	}
-	return size
+	if f.size <= mostItems {
+		return
+	}
+	f.size, f.maker.crowded = f.items, true
+	for _, d := range f.derived {
+		if d.inner != nil && d.common == nil {
+			f.plan.leaveOut(aSubqueryInFrom)
+		}
+		d.inner = nil
+	}
 }
 
 // plain reports whether each row that a subquery returns is made of one row of each of its tables.
@@ -81,7 +99,7 @@ func (f *fromClause) reaches(d *derived, body node) bool {
 	if name == "" || d.alias.has("colnames") || d.at.natural {
 		return false
 	}
-	outputs, known := f.maker.outputs(d.query)
+	outputs, known := f.maker.outputsOf(d)
 	if !known {
 		return false
 	}
@@ -154,6 +172,14 @@ func (f *fromClause) endsWith(d *derived, body node) bool {
 	return false
 }
 
+// outputsOf is outputs for an item of FROM.
+func (m *maker) outputsOf(d *derived) (all map[string]bool, known bool) {
+	if d.common != nil {
+		return d.common.outputs, d.common.known
+	}
+	return m.outputs(d.query)
+}
+
 // outputs returns the names of a query's columns; known is false if they may have others.
 func (m *maker) outputs(query node) (all map[string]bool, known bool) {
 	all = map[string]bool{}
@@ -194,9 +220,8 @@ func (m *maker) starred(to map[string]bool, query node, of []string) bool {
 				break
 			}
 			if c := m.commons[body.text("relname")]; c != nil && !body.has("schemaname") {
-				its, ok := m.outputs(c.query)
-				known = known && ok && !body.node("alias").has("colnames")
-				for name := range its {
+				known = known && c.known && !body.node("alias").has("colnames")
+				for name := range c.outputs {
 					to[name] = true
 				}
 				break
@@ -245,6 +270,7 @@ func (f *fromClause) enter(d *derived) {
 	if f.lists {
 		inner.unlisted = f.unlisted
 	}
+	inner.reached, inner.depth = f.reached || d.lateral, f.depth+1
 	inner.readPart(d.query, func(target string) bool { return several || f.uses(d, target) })
 	_, first := only(d.query.list("targetList")[0])
 	if at := m.tokenAt(first.number("location")); at >= 0 {
@@ -318,7 +344,7 @@ func (d *derived) passes(listed bool) (outside []*item) {
 		}
 		return outside
 	}
-	f, h, columns := d.inner, &hiding{sole: d.inner.items == 1}, ""
+	f, h, columns := d.inner, d.inner.hiding(), ""
 	its := f.found
 	for _, below := range f.derived {
 		if below.inner != nil && !below.carried {

@@ -26,6 +26,9 @@ type fromClause struct {
 	derived  []*derived
 	folds    bool // what is collected now may turn out not to be needed
 	word     int  // of a subquery: its FROM
+	size     int  // how many items there are, with those of subqueries that are seen
+	depth    int  // in how many subqueries it is
+	reached  bool // names may mean what is around a subquery
 }
 
 // item is a table of a FROM clause.
@@ -80,7 +83,8 @@ func (f *fromClause) walk(entry any, at place) {
 	case "RangeSubselect":
 		f.items++
 		if query := body.node("subquery").node("SelectStmt"); !query.has("valuesLists") { // VALUES reads no table
-			f.derived = append(f.derived, &derived{query: query, alias: body.node("alias"), at: at, place: f.items})
+			f.derived = append(f.derived, &derived{query: query, alias: body.node("alias"), at: at, place: f.items,
+				lateral: body.flag("lateral")})
 		}
 		f.collect(entry, 0)
 	default: // a function, whose reads are counted like those of all functions

@@ -23,7 +23,8 @@ type maker struct {
 	cursor  bool  // the statement declares one
 	passed  int   // how many hidden columns subqueries pass on
 	commons map[string]*withPart
-	parts   int // of a UNION, each of which has the hidden columns
+	crowded bool // too many items of FROM
+	parts   int  // of a UNION, each of which has the hidden columns
 	// prepared: it is SQL's PREPARE. EXECUTE runs a statement before the server describes its result, so definitions may have
 	// changed in between.
 	prepared bool

@@ -60,17 +60,21 @@ func (m *maker) selects(p *Plan, body node, start, end int) {
 	for _, source := range found {
 		p.Counts = p.Counts || source.listed
 	}
-	h := &hiding{sole: f.items == 1}
+	h := f.hiding()
 	h.window(by)
 	if p.Counts {
 		h.value(countOfRows + h.over)
 	}
 	f.result(h, body, found, word)
-	p.Widens = widens(body, f) || f.opens() && f.size() <= mostJoined
+	p.Widens = widens(body, f) || f.opens() && f.size <= mostJoined
 	p.Ordered = (p.Counts || p.Looks) && f.ordered
 	m.orders(p, body, f.width(body.list("targetList")))
 	m.asks(p, body, found, f)
 }
+
+// hiding begins hidden columns of a FROM clause. A name without a table's is one of its only table, unless it may mean what is
+// around a LATERAL subquery.
+func (f *fromClause) hiding() *hiding { return &hiding{sole: f.items == 1 && !f.reached} }
 
 // result adds the hidden columns to what a query returns, before its FROM.
 func (f *fromClause) result(h *hiding, body node, found []*item, word int) {
@@ -81,7 +85,7 @@ func (f *fromClause) result(h *hiding, body node, found []*item, word int) {
 		}
 		if d.carried {
 			d.inner.isNullable(d.at.nullable)
-			d.inner.result(&hiding{sole: d.inner.items == 1}, d.query, d.inner.found, d.inner.word)
+			d.inner.result(d.inner.hiding(), d.query, d.inner.found, d.inner.word)
 		} else {
 			found = append(found[:len(found):len(found)], d.passes(f.lists)...)
 		}

@@ -13,6 +13,9 @@ import (
 // aUnion is why rows aren't seen that a UNION and the like are made of.
 const aUnion = "UNION, INTERSECT or EXCEPT"
 
+// mostUnited is how many hidden columns all parts may have together: as each has those of all, many parts would have very many.
+const mostUnited = 1000
+
 // united is a part of a UNION ALL.
 type united struct {
 	body   node
@@ -48,7 +51,12 @@ func (m *maker) unites(p *Plan, body node, end int) {
 		m.orders(p, one, f.width(one.list("targetList")))
 		parts = append(parts, part)
 	}
-	if len(p.Sources) == 0 {
+	switch columns := len(parts) * p.Hidden(); {
+	case columns == 0:
+		return
+	case columns > mostUnited:
+		p.Sources, p.relations, p.Looks, p.Unseen = nil, nil, false, p.Unseen[:before]
+		p.leaveOut(aUnion)
 		return
 	}
 	for _, part := range parts {

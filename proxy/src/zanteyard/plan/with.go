@@ -11,15 +11,27 @@ type withPart struct {
 	opened int             // how often where its rows can be seen
 	seen   bool            // its rows are
 	empty  bool            // it reads no table
-	inner  *fromClause     // its own
-	passed []*item         // what it passes on
+	// outputs are the names of its columns, if they are known.
+	outputs map[string]bool
+	known   bool
+	inner   *fromClause // its own
+	passed  []*item     // what it passes on
 }
 
 // opensWith reads a SELECT's WITH, or returns false if its rows can't be seen: if it writes, is recursive or is within
 // another part of the statement, and if a name might mean a table elsewhere in the statement.
-func (m *maker) opensWith(body node) bool {
+func (m *maker) opensWith(body node) (opens bool) {
 	clause := body.node("withClause")
+	if len(clause.list("ctes")) > mostItems {
+		return false
+	}
 	all, before := map[string]*withPart{}, map[string]bool{}
+	m.commons = all // a part may name those before it
+	defer func() {
+		if !opens {
+			m.commons = nil
+		}
+	}()
 	for _, item := range clause.list("ctes") {
 		_, cte := only(item)
 		name := cte.text("ctename")
@@ -34,6 +46,7 @@ func (m *maker) opensWith(body node) bool {
 		for earlier := range before {
 			c.before[earlier] = true
 		}
+		c.outputs, c.known = m.outputs(query)
 		all[name], before[name] = c, true
 	}
 	parts := 0
@@ -46,11 +59,7 @@ func (m *maker) opensWith(body node) bool {
 		}
 		return true
 	})
-	if parts > len(all) || writesWithin(clause) {
-		return false
-	}
-	m.commons = all
-	return true
+	return parts == len(all) && !writesWithin(clause)
 }
 
 // derived makes a part of WITH an item of FROM.
@@ -65,7 +74,7 @@ func (c *withPart) derived(r node, at place, place int) *derived {
 // closeWith decides whether what WITH reads is seen: only if each name of each part of it is where more columns of it change
 // nothing.
 func (f *fromClause) closeWith() {
-	all := true
+	all := !f.maker.crowded
 	for _, c := range f.maker.commons {
 		all = all && (c.opened == c.refs || c.empty)
 	}
