@@ -123,7 +123,7 @@ func (f *fromClause) reaches(d *derived, body node) bool {
 		case !of && !outputs[last]:
 			continue
 		}
-		used = used || ref.join != d.at.optional
+		used = used || ref.join != d.at.optional && !ref.folds
 	}
 	if stars > 0 {
 		if stars > 1 || !f.endsWith(d, body) {
@@ -309,7 +309,7 @@ func (f *fromClause) isNullable(is bool) {
 func (f *fromClause) uses(d *derived, column string) bool {
 	for _, ref := range f.refs {
 		last := len(ref.fields) - 1
-		if last >= 0 && (ref.fields[last] == column || ref.fields[last] == "*") &&
+		if last >= 0 && !ref.folds && (ref.fields[last] == column || ref.fields[last] == "*") &&
 			(last == 0 || ref.fields[last-1] == d.alias.text("aliasname")) {
 			return true
 		}

@@ -101,7 +101,7 @@ func forward(t *testing.T, change func(*Options)) (dial func() (*pgconn.PgConn, 
 	}
 }
 
-// run runs a statement in one of the protocol's ways, and returns its rows as text.
+// run runs a statement in one of the protocol's ways, and returns its rows as text, with an error those from before it.
 func (w *walker) run(r *rand.Rand, text string, parameters ...string) ([][]string, error) {
 	ctx, cancel := context.WithTimeout(context.Background(), 5*time.Minute)
 	defer cancel()
@@ -116,10 +116,13 @@ func (w *walker) run(r *rand.Rand, text string, parameters ...string) ([][]strin
 			text = strings.ReplaceAll(text, "$"+strconv.Itoa(i), "'"+parameters[i-1]+"'")
 		}
 		results, err := w.conn.Exec(ctx, text).ReadAll()
-		if err != nil {
+		if len(results) == 0 {
 			return nil, err
 		}
 		result = results[len(results)-1]
+		if result.Err == nil {
+			result.Err = err
+		}
 	case way == 1:
 		result = w.conn.ExecParams(ctx, text, values, nil, nil, nil).Read()
 	default:
@@ -133,9 +136,6 @@ func (w *walker) run(r *rand.Rand, text string, parameters ...string) ([][]strin
 		}
 		result = w.conn.ExecPrepared(ctx, name, values, nil, nil).Read()
 	}
-	if result.Err != nil {
-		return nil, result.Err
-	}
 	var rows [][]string
 	for _, row := range result.Rows {
 		var texts []string
@@ -144,7 +144,7 @@ func (w *walker) run(r *rand.Rand, text string, parameters ...string) ([][]strin
 		}
 		rows = append(rows, texts)
 	}
-	return rows, nil
+	return rows, result.Err
 }
 
 // shape is a kind of statement.
@@ -319,12 +319,12 @@ func (h *historian) step(r *rand.Rand, w *walker) {
 		s := kinds[r.Intn(len(kinds))]
 		rows, err := w.run(r, s.text, s.args(r, w.tag)...)
 		w.deleted = w.deleted || strings.HasPrefix(s.text, "DELETE")
-		if err == nil {
-			for _, row := range rows {
-				for _, v := range s.versions(row) {
-					w.rows[v] = true
-				}
+		for _, row := range rows { // a statement that fails may have returned some
+			for _, v := range s.versions(row) {
+				w.rows[v] = true
 			}
+		}
+		if err == nil {
 			return
 		}
 		h.end(w, "ROLLBACK")
