@@ -171,3 +171,24 @@ func TestIndexIsBounded(t *testing.T) {
 		t.Error(got)
 	}
 }
+
+// TestIndexOfWhatNeverHolds: what holds of no row is found for none, and is dropped in any order.
+func TestIndexOfWhatNeverHolds(t *testing.T) {
+	_, all := open(t, "never", schema)
+	index := condition.NewIndex(condition.Limits{Conditions: 9, Bytes: 1 << 20, Scanned: 9}, nil)
+	var its []*condition.Condition
+	for _, where := range []string{"a = ANY ('{}')", "a = 1", "a IN (1) AND a IS NULL"} {
+		one, err := made(t, all, "SELECT * FROM r WHERE "+where, condition.Arguments{})
+		if err != nil {
+			t.Fatal(err)
+		}
+		index.Add(one)
+		its = append(its, one)
+	}
+	for _, one := range []*condition.Condition{its[1], its[2], its[0]} {
+		index.Drop(one.Key())
+	}
+	if index.Len() != 0 || index.Bytes() != 0 {
+		t.Errorf("%d conditions of %d bytes are left", index.Len(), index.Bytes())
+	}
+}

@@ -138,6 +138,9 @@ func (x *Index) remove(one *entry) {
 	x.order.Remove(one.place)
 	x.bytes -= one.condition.Size()
 	table := x.tables[one.condition.Table()]
+	if table == nil { // it never holds, so it is filed nowhere
+		return
+	}
 	table.take(one)
 	if len(table.columns) == 0 && table.scanned.Len() == 0 {
 		delete(x.tables, one.condition.Table())

@@ -13,7 +13,7 @@ import (
 )
 
 // phantomRow is a row's values; a is -1 for NULL.
-type phantomRow struct{ a, b int }
+type phantomRow struct{ id, a, b int }
 
 // phantomCondition is one that is asked by.
 type phantomCondition struct {
@@ -242,13 +242,14 @@ func (c *phantomClient) write(t *phantomTxn, own map[int]bool) error {
 	undone, deletes := c.r.Intn(8) == 0, false
 	text := ""
 	var by *phantomCondition // what it asks by
+	itself := &phantomCondition{fmt.Sprintf("id = %d", key), func(v phantomRow) bool { return v.id == key }}
 	switch c.r.Intn(7) {
 	case 0, 1:
 		text = fmt.Sprintf("INSERT INTO %s VALUES (%d, %s, %d, '%s') ON CONFLICT DO NOTHING", c.table, key, a, b, t.tag)
 	case 2:
-		text = fmt.Sprintf("UPDATE "+c.table+" SET a = %s, tag = '%s' WHERE id = %d", a, t.tag, key)
+		text, by = fmt.Sprintf("UPDATE "+c.table+" SET a = %s, tag = '%s' WHERE id = %d", a, t.tag, key), itself
 	case 3:
-		text = fmt.Sprintf("UPDATE "+c.table+" SET b = %d, tag = '%s' WHERE id = %d", b, t.tag, key)
+		text, by = fmt.Sprintf("UPDATE "+c.table+" SET b = %d, tag = '%s' WHERE id = %d", b, t.tag, key), itself
 	case 4:
 		its := someCondition(c.r)
 		text, by = fmt.Sprintf("UPDATE "+c.table+" SET b = %d, tag = '%s' WHERE %s AND id > 0", b, t.tag, its.text), &its
@@ -258,7 +259,7 @@ func (c *phantomClient) write(t *phantomTxn, own map[int]bool) error {
 		text, by = fmt.Sprintf("DELETE FROM %s WHERE %s AND id > 0", c.table, its.text), &its
 	default:
 		deletes = true
-		text = fmt.Sprintf("DELETE FROM %s WHERE id = %d", c.table, key)
+		text, by = fmt.Sprintf("DELETE FROM %s WHERE id = %d", c.table, key), itself
 	}
 	if undone {
 		if _, err := c.ask("SAVEPOINT a"); err != nil {

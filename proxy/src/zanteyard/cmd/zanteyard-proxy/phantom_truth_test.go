@@ -55,6 +55,7 @@ func logged(to map[int][]phantomVersion, xid uint64, change string) {
 	}
 	key, _ := strconv.Atoi(values["id"])
 	v := phantomVersion{tag: values["tag"], xid: xid, exists: !strings.HasPrefix(change, "DELETE:")}
+	v.row.id = key
 	v.row.b, _ = strconv.Atoi(values["b"])
 	if v.row.a = -1; values["a"] != "null" {
 		v.row.a, _ = strconv.Atoi(values["a"])
