@@ -219,6 +219,10 @@ func (m *maker) starred(to map[string]bool, query node, of []string) bool {
 			if len(of) > 0 && of[len(of)-1] != name {
 				break
 			}
+			if m.with[body.text("relname")] && m.commons == nil && !body.has("schemaname") {
+				known = false // a part of WITH that isn't looked at
+				break
+			}
 			if c := m.commons[body.text("relname")]; c != nil && !body.has("schemaname") {
 				known = known && c.known && !body.node("alias").has("colnames")
 				for name := range c.outputs {

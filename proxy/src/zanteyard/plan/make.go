@@ -17,11 +17,12 @@ type maker struct {
 	offsets []int // of the tokens in the joined text
 	depths  []int // how many parentheses each is in; a parenthesis itself counts as outside
 	shape   string
-	many    bool  // VALUES has more rows than are to be returned
-	configs []int // the tokens of the names that set_config sets, nowhere for one that is no constant
-	renames bool  // something else may change what names mean
-	cursor  bool  // the statement declares one
-	passed  int   // how many hidden columns subqueries pass on
+	many    bool            // VALUES has more rows than are to be returned
+	configs []int           // the tokens of the names that set_config sets, nowhere for one that is no constant
+	renames bool            // something else may change what names mean
+	cursor  bool            // the statement declares one
+	passed  int             // how many hidden columns subqueries pass on
+	with    map[string]bool // the names of the statement's own WITH
 	commons map[string]*withPart
 	crowded bool // too many items of FROM
 	parts   int  // of a UNION, each of which has the hidden columns

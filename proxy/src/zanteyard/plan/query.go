@@ -28,6 +28,7 @@ func (m *maker) query(stmt statement, name string, body node, start int) *Plan {
 	if kindFound(body, "SubLink") {
 		p.leaveOut("a subquery")
 	}
+	m.with = withNames(body)
 	if body.has("withClause") && (name != "SelectStmt" || !m.opensWith(body)) {
 		p.leaveOut(aWith)
 	}

@@ -14,7 +14,7 @@ import (
 const aUnion = "UNION, INTERSECT or EXCEPT"
 
 // mostUnited is how many hidden columns all parts may have together: as each has those of all, many parts would have very many.
-const mostUnited = 1000
+const mostUnited = 128
 
 // united is a part of a UNION ALL.
 type united struct {
@@ -54,7 +54,7 @@ func (m *maker) unites(p *Plan, body node, end int) {
 	switch columns := len(parts) * p.Hidden(); {
 	case columns == 0:
 		return
-	case columns > mostUnited:
+	case columns > mostUnited, size > mostJoined: // nor would plans be compared
 		p.Sources, p.relations, p.Looks, p.Unseen = nil, nil, false, p.Unseen[:before]
 		p.leaveOut(aUnion)
 		return
@@ -62,14 +62,17 @@ func (m *maker) unites(p *Plan, body node, end int) {
 	for _, part := range parts {
 		p.insertions = append(p.insertions, part.insertion(parts))
 	}
-	m.parts, p.Widens, p.Ordered = len(parts), size <= mostJoined, p.Looks
+	m.parts, p.Widens, p.Ordered = len(parts), true, p.Looks
 	m.unionOrders(p, body, width)
 }
 
 // unionAll returns the parts of a UNION ALL, of nothing else.
 func unionAll(body node) (all []node, ok bool) {
+	if body.has("withClause") { // whose names may stand in the place of tables
+		return nil, false
+	}
 	if op := body.text("op"); op == "" || op == "SETOP_NONE" {
-		return []node{body}, !body.has("withClause") && len(body.list("targetList")) > 0 && !body.has("intoClause")
+		return []node{body}, len(body.list("targetList")) > 0 && !body.has("intoClause")
 	} else if op != "SETOP_UNION" || !body.flag("all") {
 		return nil, false
 	}

@@ -6,6 +6,47 @@ import (
 	"github.com/jackc/pgproto3/v2"
 )
 
+// TestFetchFromAPortal: a portal of the protocol's is a cursor to SQL's FETCH.
+func TestFetchFromAPortal(t *testing.T) {
+	needServer(t)
+	sql(t, fill)
+	bind := &pgproto3.Bind{PreparedStatement: "s", DestinationPortal: "My one"}
+	some := &pgproto3.Execute{Portal: "My one", MaxRows: 1}
+	fetch := func(more ...pgproto3.FrontendMessage) []pgproto3.FrontendMessage {
+		return append([]pgproto3.FrontendMessage{bind, some, &pgproto3.Parse{Query: `FETCH 2 FROM "My one"`}}, more...)
+	}
+	for _, x := range []struct {
+		name  string
+		steps []step
+	}{
+		{"simple", []step{messages('s', bind, some, &pgproto3.Flush{}), query(`FETCH 2 FROM "My one"`)}},
+		{"several", []step{messages('s', bind, some, &pgproto3.Flush{}), query(`SELECT 1; FETCH 2 FROM "My one"; FETCH FROM "My one"`)}},
+		{"in a block", []step{query("BEGIN"), messages('Z', bind, some, &pgproto3.Sync{}), query(`FETCH 2 FROM "My one"`), query("COMMIT")}},
+		{"extended", []step{messages('Z', fetch(&pgproto3.Bind{}, &pgproto3.Execute{}, &pgproto3.Sync{})...)}},
+		{"described", []step{messages('Z', fetch(&pgproto3.Bind{}, &pgproto3.Describe{ObjectType: 'P'}, &pgproto3.Execute{}, &pgproto3.Sync{})...)}},
+		{"binary", []step{messages('Z', fetch(&pgproto3.Bind{ResultFormatCodes: []int16{1, 0}}, &pgproto3.Execute{}, &pgproto3.Sync{})...)}},
+	} {
+		plain, p := direct(t, "postgres"), through(t, "postgres", nil)
+		prepare := named("s", "SELECT id, v FROM t ORDER BY id")
+		plain.do(prepare)
+		p.do(prepare)
+		run := messages('Z', &pgproto3.Bind{PreparedStatement: "s"}, &pgproto3.Execute{}, &pgproto3.Sync{})
+		for i := 0; i < 3; i++ {
+			p.do(run)
+			p.settle()
+		}
+		p.sink.take()
+		if p.do(run); len(p.sink.take()) == 0 {
+			t.Fatal("the statement isn't seen")
+		}
+		for i, step := range x.steps {
+			if got, want := show(p.do(step)), show(plain.do(step)); got != want {
+				t.Errorf("%s, step %d: got\n%s\nand not\n%s", x.name, i, got, want)
+			}
+		}
+	}
+}
+
 // TestBoundBehindTheEnd: a portal that is bound behind what ends a transaction, but is run only after the end was answered,
 // returns what it would without the proxy.
 func TestBoundBehindTheEnd(t *testing.T) {

@@ -83,7 +83,7 @@ func (s *Session) look(name string, text []byte) *statement {
 		return ahead
 	}
 	st := &statement{name: name, text: string(text), looked: never, behind: s.somethingRuns(), others: s.trust.others}
-	if !s.options.Auditing() && len(s.names.cursors) == 0 {
+	if !s.options.Auditing() && !s.names.fetchable() {
 		return st // it may be run after an audit has begun
 	}
 	st.looked = s.trust.plans
@@ -101,7 +101,7 @@ func (s *Session) looking() bool {
 
 // fresh looks up a statement's plan again if the catalog or the search path has changed since.
 func (s *Session) fresh(st *statement) {
-	if st.text == "" || !s.looking() && len(s.names.cursors) == 0 { // a rewritten cursor outlives its audit
+	if st.text == "" || !s.looking() && !s.names.fetchable() { // a rewritten cursor outlives its audit
 		return
 	}
 	st.looked = s.trust.plans
@@ -286,9 +286,9 @@ func (s *Session) bind(o *output, m []byte, start, end int) {
 		o.pass(start, end)
 	case st.altered || may:
 		s.bindHidden(o, b, st, p)
-	case st.kind() == plan.Fetch && s.names.cursors[st.plan.Name] != nil:
+	case st.kind() == plan.Fetch && s.names.cursor(st.plan.Name) != nil:
 		p.binary = b.Binary() // its rows have hidden columns
-		o.buf = b.Append(o.own(), st.name, hiddenColumns(s.names.cursors[st.plan.Name].plan))
+		o.buf = b.Append(o.own(), st.name, hiddenColumns(s.names.cursor(st.plan.Name).plan))
 	default:
 		o.pass(start, end)
 		p.asking = s.asksUnchanged(st, s.arguments(b, st))
@@ -332,7 +332,8 @@ func (s *Session) bindHidden(o *output, b *wire.Bind, st *statement, p *portal) 
 	p.binary, p.changed = b.Binary(), true
 	if st.plan.Kind != plan.Declare {
 		p.hides, p.hidden = st.plan, st.use.hidden
-	} else {
+	}
+	if st.plan.Kind == plan.Declare || p.name != "" { // SQL's FETCH knows the portal by its name
 		s.names.hides = true
 	}
 	if st.plan.AddsReturning {

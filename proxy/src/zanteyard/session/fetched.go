@@ -41,7 +41,7 @@ func (s *Session) foretells(p *portal, columns []wire.Column) {
 	x := expectation{on: p.on}
 	var of *cursor
 	if s.fetched(&x); x.hides != nil {
-		of = s.names.cursors[x.current().Name]
+		of = s.names.cursor(x.current().Name)
 	} else if s.recognizes(&x, columns); x.hides == nil {
 		return
 	}
@@ -90,9 +90,17 @@ func appendDescribePortal(to []byte, name []byte) []byte {
 // recognizes looks for the cursor whose rows have these columns, and makes the answer be cut like them.
 func (s *Session) recognizes(e *expectation, columns []wire.Column) {
 	var found *cursor
-	for _, c := range s.names.cursors {
+	is := func(c *cursor) {
 		if c.has(columns) && (found == nil || hiddenColumns(c.plan) > hiddenColumns(found.plan)) {
 			found = c
+		}
+	}
+	for _, c := range s.names.cursors {
+		is(c)
+	}
+	for name, p := range s.names.portals {
+		if name != "" && p.hidden > 0 {
+			is(p.cursor())
 		}
 	}
 	if found == nil {

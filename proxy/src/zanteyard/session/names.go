@@ -95,6 +95,36 @@ type cursor struct {
 	own  int    // columns of the client's own
 }
 
+// neverEra: nothing is told of what a portal of the protocol's returns to SQL's FETCH.
+const neverEra = ^uint64(0)
+
+// cursor returns what FETCH by a name returns hidden columns of: a cursor, or one of the protocol's portals, which are
+// cursors of that name to the server; nil if there is none.
+func (n *names) cursor(name string) *cursor {
+	if c := n.cursors[name]; c != nil {
+		return c
+	}
+	if p := n.portals[name]; p != nil && p.hidden > 0 {
+		return p.cursor()
+	}
+	return nil
+}
+
+func (p *portal) cursor() *cursor { return &cursor{p.hides, neverEra, p.on.use.own} }
+
+// fetchable reports whether FETCH may return hidden columns.
+func (n *names) fetchable() bool {
+	if len(n.cursors) > 0 {
+		return true
+	}
+	for name, p := range n.portals {
+		if name != "" && p.hidden > 0 {
+			return true
+		}
+	}
+	return false
+}
+
 // mostUnread is how many cursors that aren't rewritten are known by name.
 const mostUnread = 256
 

@@ -206,7 +206,7 @@ func (s *Session) fetched(e *expectation) {
 	if e.hides != nil || fetch == nil || fetch.Kind != plan.Fetch || s.names.unsure {
 		return
 	}
-	if p := s.names.cursors[fetch.Name]; p != nil {
+	if p := s.names.cursor(fetch.Name); p != nil {
 		e.hides, e.hidden, e.replaced = p.plan, hiddenColumns(p.plan), p.era != e.era
 		e.isOver = e.isOver || e.at != nil && e.at.told != nil && e.at.told.of == p && e.at.told.isOver
 	}
