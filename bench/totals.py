@@ -199,6 +199,8 @@ def main() -> None:
     parser.add_argument("--keep", metavar="DIR", help="keep each work's log, feed and outcome here")
     parser.add_argument("--watch", default="", metavar="OPTIONS", help="more options of watch")
     asked = parser.parse_args()
+    # A shell starts background commands with SIGINT ignored, and `watch` would ignore it, too.
+    signal.signal(signal.SIGINT, signal.default_int_handler)
     for name in asked.work:
         run(name, WORKS[name], asked)
 

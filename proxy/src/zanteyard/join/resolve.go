@@ -152,7 +152,7 @@ func (c *core) resolveWrites(e *entry, to *resolution) bool {
 func (c *core) resolveReads(e *entry, to *resolution) bool {
 	asks := false
 	for i, one := range e.its.Reads {
-		if e.its.Number != 0 && uint32(e.its.Number) == one.Version {
+		if isOwn(&e.its, one.Version) { // also one that it has undone since, which the slot never reports
 			to.isOwn(i + 1)
 			continue
 		}

@@ -146,3 +146,22 @@ func TestHowFarTheSlotIs(t *testing.T) {
 		}
 	}
 }
+
+// TestReadsWhatItUndid: a version that the transaction itself wrote, and undid by ROLLBACK TO, is its own, though the slot
+// doesn't have it. One of another number isn't.
+func TestReadsWhatItUndid(t *testing.T) {
+	for version, isOwn := range map[uint32]bool{1001: true, 1002: true, 1003: false} {
+		b := newBench(t, Options{Sessions: 2})
+		b.connect(1)
+		b.core.inspects = false
+		b.tell(1, 0, record.Transaction{Number: 1001, Versions: []uint32{1001, 1002}, Reads: []record.Read{read("b", version)},
+			Did: record.Did{Selects: []record.Select{{To: 1}}, Writes: 2, Written: 2}})
+		b.commit(1001, "a")
+		b.settle()
+		b.core.round()
+		its := b.totals()
+		if own := its.Own == 1 && its.RowsRead.Checked == 1 && its.Selects.Checked == 1; own != isOwn {
+			t.Errorf("version %d: counted are %+v", version, its)
+		}
+	}
+}
