@@ -27,6 +27,13 @@ func TestBombs(t *testing.T) {
 		}
 		return text + fmt.Sprintf(" SELECT a.v FROM (SELECT * FROM w%d) a", parts)
 	}
+	joined := func(tables int) string {
+		text := "SELECT x.v FROM t x"
+		for i := 1; i < tables; i++ {
+			text += fmt.Sprintf(" JOIN t x%d ON x%d.id = x.id AND x%d.v > 0", i, i, i)
+		}
+		return text
+	}
 	nested := func(depth int) string {
 		return strings.Repeat("SELECT * FROM (", depth) + "SELECT v FROM t" + strings.Repeat(") x", depth)
 	}
@@ -38,7 +45,8 @@ func TestBombs(t *testing.T) {
 		{"WITH a AS (SELECT * FROM a) SELECT * FROM a", 0, true},
 		{"WITH a AS (SELECT * FROM b), b AS (SELECT * FROM a) SELECT a.x FROM a, b", 0, true},
 		{"WITH a AS (SELECT x.* FROM (SELECT * FROM a) x) SELECT a.v FROM a", 0, true},
-		{twice(2), 4, false}, {twice(4), 16, false}, {twice(5), 0, false}, {twice(40), 0, false}, {stars(30), 0, false},
+		{twice(2), 4, false}, {twice(3), 0, false}, {twice(5), 0, false}, {twice(40), 0, false}, {stars(30), 0, false},
+		{joined(12), 12, false}, {joined(13), 0, false}, {joined(300), 0, false},
 		{nested(8), 1, false}, {nested(9), 0, false}, {nested(190), 0, false},
 		{"SELECT v FROM t" + strings.Repeat(" UNION ALL SELECT v FROM t", 4), 5, false},
 		{"SELECT v FROM t" + strings.Repeat(" UNION ALL SELECT v FROM t", 5), 0, false},

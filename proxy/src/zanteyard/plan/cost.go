@@ -7,14 +7,17 @@ import (
 	"time"
 )
 
-// mostJoined is how many tables a statement may join for its plans to be compared: the server needs time to find one.
-const mostJoined = 8
+// mostJoined is how many tables a statement may join whose plans have to be compared: the server needs time to find one.
+const mostJoined = 12
+
+// aLargeJoin is why a statement is left as it is of which it can't be known whether hidden columns would change its plan.
+const aLargeJoin = "a sort or join of more than 12 tables"
 
 // widens reports whether hidden columns make rows wider that are sorted, joined or grouped.
 func widens(body node, f *fromClause) bool {
 	for _, field := range []string{"sortClause", "groupClause", "distinctClause", "windowClause"} {
 		if body.has(field) {
-			return f.items <= mostJoined
+			return true
 		}
 	}
 	over := false
@@ -22,7 +25,7 @@ func widens(body node, f *fromClause) bool {
 		over = over || kind == "FuncCall" && its.has("over")
 		return kind != "SubLink" && !over
 	})
-	return (over || f.items > 1) && f.items <= mostJoined
+	return over || f.items > 1
 }
 
 // mostParameters limits the statements that are explained.

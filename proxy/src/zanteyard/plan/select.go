@@ -56,6 +56,11 @@ func (m *maker) selects(p *Plan, body node, start, end int) {
 		p.leaveOut("unknown form of statement")
 		return
 	}
+	wide := widens(body, f) || f.opens()
+	if wide && f.size > mostJoined {
+		p.leaveOut(aLargeJoin)
+		return
+	}
 	p.Counts = lists && f.opens()
 	for _, source := range found {
 		p.Counts = p.Counts || source.listed
@@ -66,7 +71,7 @@ func (m *maker) selects(p *Plan, body node, start, end int) {
 		h.value(countOfRows + h.over)
 	}
 	f.result(h, body, found, word)
-	p.Widens = widens(body, f) || f.opens() && f.size <= mostJoined
+	p.Widens = wide
 	p.Ordered = (p.Counts || p.Looks) && f.ordered
 	m.orders(p, body, f.width(body.list("targetList")))
 	m.asks(p, body, found, f)

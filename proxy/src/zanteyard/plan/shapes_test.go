@@ -292,6 +292,7 @@ var shapes = []shape{
 	{sql: "SELECT 1 AS union UNION ALL SELECT v FROM t UNION ALL (SELECT 2) ORDER BY 1 LIMIT 4", seen: "t?"},
 	{sql: "SELECT v FROM t UNION ALL SELECT count(*) FROM u ORDER BY 1", seen: "t?", unseen: []string{"UNION, INTERSECT or EXCEPT"}},
 	{sql: "SELECT v FROM t UNION ALL SELECT t FROM u GROUP BY t ORDER BY 1", seen: "t?", unseen: []string{"UNION, INTERSECT or EXCEPT"}},
+	{sql: "SELECT v FROM t UNION ALL SELECT DISTINCT generate_series(1, 9) ORDER BY 1", unseen: []string{"UNION, INTERSECT or EXCEPT"}},
 	{sql: "SELECT v FROM t UNION ALL SELECT DISTINCT t FROM u ORDER BY 1", unseen: []string{"UNION, INTERSECT or EXCEPT"}},
 	{sql: "SELECT(1)UNION ALL SELECT v FROM t ORDER BY 1", seen: "t?"},
 	{sql: "SELECT v FROM t UNION ALL SELECT b FROM bare ORDER BY 1", seen: "t?", unseen: []string{"no primary key"}, flags: "error"},

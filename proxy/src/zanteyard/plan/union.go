@@ -92,7 +92,7 @@ func (m *maker) part(p *Plan, body node, end int) (*united, *fromClause) {
 	part := &united{body: body}
 	_, first := only(body.list("targetList")[0])
 	at := m.tokenAt(first.number("location"))
-	if at < 0 {
+	if at < 0 || body.has("distinctClause") { // more columns would be made distinct, in another order
 		return nil, nil
 	}
 	if !body.has("fromClause") {
@@ -101,9 +101,6 @@ func (m *maker) part(p *Plan, body node, end int) (*united, *fromClause) {
 	}
 	if part.at = m.fromAfter(at, end, m.depths[at]); part.at < 0 {
 		return nil, nil
-	}
-	if body.has("distinctClause") {
-		return nil, nil // more columns would be made distinct, in another order
 	}
 	if lists, reason := m.merges(body); lists || reason != "" { // its rows aren't those of tables
 		if m.readsTables(body) {
