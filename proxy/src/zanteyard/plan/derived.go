@@ -284,7 +284,9 @@ func (f *fromClause) enter(d *derived) {
 		f.plan.leaveOut("unknown form of statement")
 		return
 	}
-	inner.locks = inner.locks || f.locks
+	if d.common == nil && f.locksAll { // it doesn't lock what WITH reads, nor what other tables' names leave out
+		inner.locks, inner.locksAll = true, true
+	}
 	inner.open(d.query, true)
 	inner.found = inner.groups()
 	if len(inner.found) == 0 && !inner.opens() {

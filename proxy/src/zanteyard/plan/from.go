@@ -16,8 +16,10 @@ type fromClause struct {
 	refs  []reference
 	where any
 	locks bool
-	taken string // the name of the table that is written to
-	lists bool   // each row of the result is made of any number of rows
+	// locksAll means that it locks rows of all tables, those of subqueries too.
+	locksAll bool
+	taken    string // the name of the table that is written to
+	lists    bool   // each row of the result is made of any number of rows
 	// ordered means that hidden lists and looks into tables may change what is answered, and unlisted that they aren't used.
 	ordered, unlisted bool
 	// unsorted means that ORDER BY doesn't decide in which order the groups are.
@@ -60,6 +62,10 @@ func (f *fromClause) read(body node, field string) {
 		}
 	}
 	f.locks, f.where, f.group = body.has("lockingClause"), body["whereClause"], body.list("groupClause")
+	for _, clause := range body.list("lockingClause") {
+		_, its := only(clause)
+		f.locksAll = f.locksAll || !its.has("lockedRels")
+	}
 }
 
 // place is what the joins around an item mean for it.

@@ -139,7 +139,7 @@ func (f *fromClause) indexOnly(it *item) bool {
 	}
 	columns := map[int16]bool{}
 	for _, other := range f.found {
-		if (it.natural || other.natural) && other != it {
+		if it.natural && other.natural && other != it {
 			common(columns, it.table, other.table)
 		}
 	}
