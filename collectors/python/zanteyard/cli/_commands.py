@@ -260,7 +260,7 @@ GROUPS: Mapping[str, Mapping[str, Command]] = {
     },
 }
 COMMANDS: Mapping[str, Command] = {
-    name: its for commands in GROUPS.values() for name, its in commands.items()
+    name: entry for commands in GROUPS.values() for name, entry in commands.items()
 }
 
 
@@ -294,21 +294,21 @@ def parser(named: str | None = None, words: Sequence[str] = ()) -> Parser:
         "--version", action=_Version, nargs=0, help="print the version and the programs it uses"
     )
     commands = whole.add_subparsers(metavar="COMMAND", required=True, parser_class=Parser)
-    for name, its in COMMANDS.items():
-        command = _add(commands, name, its.about)
-        command.set_defaults(has_verdict=its.has_verdict)
+    for name, entry in COMMANDS.items():
+        command = _add(commands, name, entry.about)
+        command.set_defaults(has_verdict=entry.has_verdict)
         whole.commands[name] = command
         if named is None or name == named:
-            its.fill(command)
+            entry.fill(command)
             if name not in UNSETTLED:
                 settle(command, name, words)
-        _end(command, its.example)
+        _end(command, entry.example)
     texts = [
         "Start with `zanteyard demo`. `zanteyard help COMMAND` shows a command's options.",
         STATUS_WORDS,
     ]
     folder = documents()
-    whole.groups = {title: [*its] for title, its in GROUPS.items()}
+    whole.groups = {title: [*commands_of_group] for title, commands_of_group in GROUPS.items()}
     whole.epilog = _paragraphs(*texts) + (f"\n\nDocuments: {folder}" if folder else "")
     return whole
 
@@ -334,8 +334,8 @@ def _add(commands: Any, name: str, about: str) -> Parser:
 
 def _end(command: argparse.ArgumentParser, example: str) -> None:
     """The text below the options."""
-    its = command.epilog or ""
-    command.epilog = f"example:\n  {example}\n\n" + (its if "\n" in its else _paragraphs(its))
+    text = command.epilog or ""
+    command.epilog = f"example:\n  {example}\n\n" + (text if "\n" in text else _paragraphs(text))
 
 
 def _paragraphs(*texts: str) -> str:

@@ -94,8 +94,8 @@ def _imported(
         script = os.path.join(folder, "script")
         with progress.during(IMPORTING):
             is_timed = getattr(asked, "promise", None) == STRICT.name
-            its = (asked.first, asked.initial, is_timed, asked.independent, asked.leave_out)
-            imported = import_text(form, text_in(whole, about), *its)
+            settings = (asked.first, asked.initial, is_timed, asked.independent, asked.leave_out)
+            imported = import_text(form, text_in(whole, about), *settings)
             write_script(imported, script)
         if not getattr(asked, "json", False):
             say(f"{about}, read as {form}: {imported.about[0]}")

@@ -17,8 +17,8 @@ def junit_report(name: str, stories: Sequence[Story]) -> str:
     suite = ElementTree.Element("testsuite", whole)
     for number, story in enumerate(stories, 1):
         named = f"{name}, verdict {number}" if len(stories) > 1 else name
-        its = {"classname": f"zanteyard.{story.promise.name}", "name": _plain(named)}
-        case = ElementTree.SubElement(suite, "testcase", its)
+        attributes = {"classname": f"zanteyard.{story.promise.name}", "name": _plain(named)}
+        case = ElementTree.SubElement(suite, "testcase", attributes)
         if story.kind != Kind.SERIAL:
             what = story.anomaly.name if story.anomaly else story.kind
             told = {"type": what, "message": _plain(f"{story.kind}: {story.sentence}")}

@@ -182,62 +182,62 @@ def check(asked: argparse.Namespace) -> int:
         refuse_options(asked, OF_VERDICTS, "isn't possible with a journal")
         return run_journal(asked)
     stories: list[Story] = []
-    with no_collections(), Progress(READING) as progress, given(asked, progress) as its:
-        page = Page(asked.html, its.about)
-        with _run_of(asked, its.script) as run:
+    with no_collections(), Progress(READING) as progress, given(asked, progress) as source:
+        page = Page(asked.html, source.about)
+        with _run_of(asked, source.script) as run:
             progress.doing = run.doing
-            for verdict in run.verdicts(its.lines):
+            for verdict in run.verdicts(source.lines):
                 is_violated = verdict.kind == Kind.VIOLATED
                 if is_violated:
                     asked.status = exit_status(verdict.kind)  # this is final
                 if is_violated and stories and stories[-1].kind == Kind.VIOLATED:
                     if not asked.json:
-                        say(f"{its.where(verdict)} still violated")
+                        say(f"{source.where(verdict)} still violated")
                     continue
                 with progress.during(EXPLAINING):
                     story = _story(verdict, run, asked.shrink_seconds)
                 stories.append(story)
                 page.write(story)
                 if asked.json:
-                    say_json({**its.as_json(verdict), **story_json(story)})
+                    say_json({**source.as_json(verdict), **story_json(story)})
                 else:
-                    tell(story, asked.all, its.where(verdict))
+                    tell(story, asked.all, source.where(verdict))
             if not asked.json:
                 _tell_no_cuts(run)
                 _tell_resumed(run)
             if asked.junit is not None:
-                write(junit_report(its.about, stories), asked.junit)
+                write(junit_report(source.about, stories), asked.junit)
             status = _status(run)
             page.end(not asked.json)
             return status
 
 
 def explain(asked: argparse.Namespace) -> int:
-    with no_collections(), Progress(READING) as progress, given(asked, progress) as its:
-        with _run_of(asked, its.script) as run:
+    with no_collections(), Progress(READING) as progress, given(asked, progress) as source:
+        with _run_of(asked, source.script) as run:
             progress.doing = run.doing
-            for verdict in run.verdicts(its.lines):
+            for verdict in run.verdicts(source.lines):
                 if verdict.kind == Kind.VIOLATED:
                     break  # violated is final
             assert run.verdict is not None
             progress.doing = EXPLAINING
             story = _story(run.verdict, run, asked.shrink_seconds)
             asked.status = _status(run)
-            where = its.where(run.verdict)
-            tell_with_page(story, its.about, asked.html, asked.all, where)
+            where = source.where(run.verdict)
+            tell_with_page(story, source.about, asked.html, asked.all, where)
             _tell_resumed(run)
             return _status(run)
 
 
 def levels(asked: argparse.Namespace) -> int:
-    with no_collections(), Progress(READING) as progress, given(asked, progress) as its:
-        lines = [*its.lines]
-        names, times = _names(its.script), _times(its.script)
+    with no_collections(), Progress(READING) as progress, given(asked, progress) as source:
+        lines = [*source.lines]
+        names, times = _names(source.script), _times(source.script)
         found = Levels(find_program(), lines, names, times, asked.nodes, asked.shrink_seconds)
         progress.doing = found.doing
         answers = {each.promise.name: each.answer for each in found.found()}
         if asked.json:
-            say_json({**its.as_json(), "levels": levels_json(found.found())})
+            say_json({**source.as_json(), "levels": levels_json(found.found())})
         else:
             for line in levels_lines(found.found()):
                 say(line)

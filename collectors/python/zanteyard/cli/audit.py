@@ -97,7 +97,8 @@ def stopped_by_signals() -> Iterator[threading.Event]:
     stop = threading.Event()
     kinds = (signal.SIGINT, signal.SIGTERM, signal.SIGHUP)
     before = {each: signal.getsignal(each) for each in kinds}
-    before = {each: its for each, its in before.items() if its != signal.SIG_IGN}  # for nohup
+    ignored = signal.SIG_IGN  # under nohup
+    before = {each: handler for each, handler in before.items() if handler != ignored}
 
     def restore() -> None:
         for each, handler in before.items():
@@ -138,8 +139,8 @@ def _beside(
     """The clients of a live audit."""
     if asked.churn:
         workload = EVERY_WORKLOAD[asked.workload]
-        its = (asked.clients, workload, asked.seconds, asked.rate)
-        return ChurningClients(live, make_store, *its, is_over=stop.is_set)
+        settings = (asked.clients, workload, asked.seconds, asked.rate)
+        return ChurningClients(live, make_store, *settings, is_over=stop.is_set)
     if not asked.processes:
         sessions = [live.session(make_store()) for _ in range(asked.clients)]
         more = (asked.seconds, lambda: live.is_over or stop.is_set(), asked.rate)
@@ -174,8 +175,8 @@ def audited_run(
     promise = asked.promise
     with Auditor(asked.clients, journal=asked.audit_journal, promise=promise) as auditor:
         more: Any = {"on_client": _say} if asked.churn else {}  # prints clients' first transactions
-        its = {"every": asked.every, "policy": policy, "tell": _say, "on_round": rounds.see}
-        live = LiveAuditor(auditor, **its, **more)
+        settings = {"every": asked.every, "policy": policy, "tell": _say, "on_round": rounds.see}
+        live = LiveAuditor(auditor, **settings, **more)
         clients = _beside(asked, make_store, live, stop or threading.Event())
         outcome = live.stop()
         if live.is_violated:

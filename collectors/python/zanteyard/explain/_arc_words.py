@@ -71,8 +71,8 @@ class ArcWords:
 
     def forced(self, choice: Choice, side: int, needs: Sequence[Arc]) -> Arc:
         """The arc of one side of a choice, after `needs` have ruled the other side out."""
-        its = self.assumed(choice, side)
-        return its._replace(why=self._forced(choice, side), needs=tuple(needs))
+        arc = self.assumed(choice, side)
+        return arc._replace(why=self._forced(choice, side), needs=tuple(needs))
 
     def _forced(self, choice: Choice, side: int) -> str:
         reader, writer, other = map(self.of, (choice.reader, choice.writer, choice.other))
@@ -94,9 +94,9 @@ class ArcWords:
         assert choice is not None
         start, end = transaction_of(first.start), transaction_of(first.end)
         before, after = Event(start, "commit"), Event(end, "begin")
-        its = self._arc(before, after, first.why, ArcKind.WRITTEN)
+        arc = self._arc(before, after, first.why, ArcKind.WRITTEN)
         other = Choice(before, choice.key, Event(start, "begin"), after)
-        return its._replace(needs=first.needs, choice=other)
+        return arc._replace(needs=first.needs, choice=other)
 
     def between(self, choice: Choice) -> str:
         """Says which two possibilities a choice has."""

@@ -195,8 +195,8 @@ def in_halves(history: History) -> History:
         if FENCE in _keys_of(logged):
             raise CantBeAskedError("fences can't be asked about with this promise")
         reads, tried = (
-            [(key, source_half(source)) for key, source in its]
-            for its in (logged.reads, logged.tried_reads)
+            [(key, source_half(source)) for key, source in reads]
+            for reads in (logged.reads, logged.tried_reads)
         )
         return (
             logged._replace(reads=reads, writes=(), tried_reads=tried, tried_writes=()),
@@ -234,8 +234,8 @@ def audited(
 ) -> tuple[Report, str]:
     """The report of a new auditor, and the script that it was given. Raises CantBeAskedError if the
     history can't be checked for the promise."""
-    its = audited_apart(history, program, promise)
-    return its.report, its.script
+    apart = audited_apart(history, program, promise)
+    return apart.report, apart.script
 
 
 def audited_apart(

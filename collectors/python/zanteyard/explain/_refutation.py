@@ -94,8 +94,8 @@ class _Reading:
         reader, key = transaction_of(node), self.keys[number]
         source = next(
             source
-            for its, source in self.txns[reader].reads
-            if its == key and source in self.txns and key not in self.txns[source].writes
+            for read, source in self.txns[reader].reads
+            if read == key and source in self.txns and key not in self.txns[source].writes
         )
         return Explanation(self.words.wrong_read(reader, key, source))
 
@@ -108,8 +108,8 @@ class _Reading:
     def _forced(self, choice: Choice, side: int, needs: Sequence[Arc]) -> Arc:
         (first, *more) = needs
         if side == 2 and is_of_writers(choice) and not more and first.needs:
-            its = first.choice
-            if its is not None and is_of_writers(its) and its.key == choice.key:
+            ruled = first.choice
+            if ruled is not None and is_of_writers(ruled) and ruled.key == choice.key:
                 return self.words.after_own(first)
         return self.words.forced(choice, side, needs)
 

@@ -102,13 +102,13 @@ class Part:
             id: ShownId((at, number)) for at, ids in enumerate(old) for number, id in enumerate(ids)
         }
         history = [[self.moved(self.txns[id], new) for id in ids] for ids in old]
-        its = audited_apart(history, program, self.promise) if history else None
-        if its is None or its.report.kind != Kind.VIOLATED:
+        found = audited_apart(history, program, self.promise) if history else None
+        if found is None or found.report.kind != Kind.VIOLATED:
             return None
         if not self.promise.keeps_sessions:  # the report has other numbers
             return {*self.txns}
-        ids = named(its.report.certificate)
-        whole = (transaction_of(its.moved(ShownId(id))) for id in ids)
+        ids = named(found.report.certificate)
+        whole = (transaction_of(found.moved(ShownId(id))) for id in ids)
         return {old[session][number] for session, number in whole}
 
     @staticmethod

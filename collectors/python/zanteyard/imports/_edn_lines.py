@@ -135,14 +135,14 @@ class PlainMicros:
             if written:
                 accesses.append(Access(self._write, written_key, written, text))
             else:
-                its: Value = found
+                content: Value = found
                 if found == "nil":
-                    its = None
+                    content = None
                 elif self._read == READ_LIST:
-                    its = self._elements(key, found[1:-1])
-                    if its is None:
+                    content = self._elements(key, found[1:-1])
+                    if content is None:
                         return None
-                accesses.append(Access(self._read, key, its, text))
+                accesses.append(Access(self._read, key, content, text))
             texts.append(text)
         return accesses if f"[{' '.join(texts)}]" == value else None
 

@@ -164,14 +164,14 @@ class _Operations:
                 known = " and ".join(self._kinds)
                 raise ImportRefusedError(line, f"a micro-operation of this form must be {known}")
             key = token(micro[1], line, "a key")
-            its: Value
+            content: Value
             if kind == READ_LIST:
-                its = _elements(micro[2], line)
+                content = _elements(micro[2], line)
             elif kind == READ:
-                its = optional_token(micro[2], line, "a value")
+                content = optional_token(micro[2], line, "a value")
             else:
-                its = token(micro[2], line, "a written value")
-            yield Access(kind, key, its, self._text_of(function, key, its))
+                content = token(micro[2], line, "a written value")
+            yield Access(kind, key, content, self._text_of(function, key, content))
 
     def _text_of(self, function: str, key: str, value: Value) -> str:
         """As the file has it."""

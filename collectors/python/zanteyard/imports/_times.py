@@ -34,10 +34,11 @@ def times_of(recording: Recording, ids: Mapping[int, AuditId]) -> ScriptTimes:
         for attempt in attempts.values()
     )
     if are_told:
-        told = {id: (its.began_at or 0, its.ended_at) for id, its in attempts.items()}
+        told = {id: (attempt.began_at or 0, attempt.ended_at) for id, attempt in attempts.items()}
         return ScriptTimes("ns", told)
     places = {
-        id: (its.began, None if its.ended == NEVER else its.ended) for id, its in attempts.items()
+        id: (attempt.began, None if attempt.ended == NEVER else attempt.ended)
+        for id, attempt in attempts.items()
     }
     return ScriptTimes("places", places)
 

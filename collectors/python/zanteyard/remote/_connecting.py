@@ -29,9 +29,9 @@ def welcomed(messages: Any) -> Any:
         raise ProgramEndedError(message)
     _, form, version, *welcome = messages.receive()
     if form != FORM:
-        its = f"zanteyard {version}" if isinstance(version, str) else "an earlier version"
+        sender = f"zanteyard {version}" if isinstance(version, str) else "an earlier version"
         raise OtherVersionError(
-            f"the auditor's process is from {its}, and this one from {VERSION}: they don't "
+            f"the auditor's process is from {sender}, and this one from {VERSION}: they don't "
             "understand one another, and nothing is audited (docs/OPERATION.md)"
         )
     return welcome

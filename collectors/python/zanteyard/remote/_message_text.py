@@ -46,8 +46,8 @@ def plain(value: object) -> bytes:
 def message_of(text: bytes) -> Message:
     """Raises NoMessageError."""
     try:
-        its = json.loads(text.decode("ascii"), parse_constant=_no_number)
-        run, client, number, did = its["run"], its["client"], its["number"], its["did"]
+        message = json.loads(text.decode("ascii"), parse_constant=_no_number)
+        run, client, number, did = (message[name] for name in ("run", "client", "number", "did"))
         is_one = isinstance(run, str) and isinstance(client, str) and _is_below(number, NUMBERS)
         if is_one and isinstance(did, list) and did and isinstance(did[0], str):
             return Message(run, client, number, _frozen(did, DEEPEST))
@@ -58,8 +58,8 @@ def message_of(text: bytes) -> Message:
 
 def logged_text(logged: Logged) -> bytes:
     """What one transaction did. Raises ValueError if it can't be sent."""
-    its = logged._asdict()
-    fields = {name: value for name, value in its.items() if value != DEFAULTS[name]}
+    values = logged._asdict()
+    fields = {name: value for name, value in values.items() if value != DEFAULTS[name]}
     try:
         text = plain(fields)
     except TypeError as error:
@@ -74,33 +74,34 @@ def logged_of(fields: Any) -> Logged:
     """Raises NoMessageError."""
     if type(fields) is not dict or not fields.keys() <= DEFAULTS.keys():
         raise NoMessageError("what a transaction did has other fields")
-    its = {**DEFAULTS, **fields}
+    values = {**DEFAULTS, **fields}
     frozen = {
         name: _frozen(value, DEEPEST) if type(value) is list else value
-        for name, value in its.items()
+        for name, value in values.items()
     }
     logged = _checked(Logged(**frozen))
     lists: Any = {name: [*frozen[name]] for name in LISTS}
     return logged._replace(**lists)
 
 
-def _checked(its: Logged) -> Logged:
+def _checked(logged: Logged) -> Logged:
     try:
         are_right = (
-            all(map(_is_read, (*its.reads, *its.tried_reads)))
-            and all(isinstance(key, str) for key in (*its.writes, *its.tried_writes, its.caller))
-            and its.outcome in OUTCOMES
-            and all(_is_deed(deed) and isinstance(text, str) for deed, text in its.statements)
-            and all(len(value) == 3 and {str} == {*map(type, value)} for value in its.values)
-            and isinstance(its.began, (int, float))
-            and len(its.span) in (0, 3)
-            and _is_below(its.from_before, NUMBERS)
+            all(map(_is_read, (*logged.reads, *logged.tried_reads)))
+            and all(isinstance(key, str) for key in (*logged.writes, *logged.tried_writes))
+            and isinstance(logged.caller, str)
+            and logged.outcome in OUTCOMES
+            and all(_is_deed(deed) and isinstance(text, str) for deed, text in logged.statements)
+            and all(len(value) == 3 and {str} == {*map(type, value)} for value in logged.values)
+            and isinstance(logged.began, (int, float))
+            and len(logged.span) in (0, 3)
+            and _is_below(logged.from_before, NUMBERS)
         )
     except (TypeError, ValueError):
         are_right = False
     if not are_right:
         raise NoMessageError("what a transaction did has another form")
-    return its
+    return logged
 
 
 def _is_read(read: Any) -> bool:

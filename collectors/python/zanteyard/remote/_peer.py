@@ -23,10 +23,10 @@ def peer_of(descriptor: int) -> Peer | None:
     system doesn't say."""
     try:
         with socket.socket(fileno=os.dup(descriptor)) as same:
-            its = same.getsockopt(socket.SOL_SOCKET, socket.SO_PEERCRED, CREDENTIALS.size)
+            credentials = same.getsockopt(socket.SOL_SOCKET, socket.SO_PEERCRED, CREDENTIALS.size)
     except (AttributeError, OSError):
         return None
-    process, user, _ = CREDENTIALS.unpack(its)
+    process, user, _ = CREDENTIALS.unpack(credentials)
     return Peer(process, user)
 
 

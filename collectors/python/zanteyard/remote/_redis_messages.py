@@ -87,14 +87,14 @@ class StreamReader:
         reached."""
         begun = time.monotonic()
         try:
-            its = self._redis.xread({self._stream: self._after}, AT_ONCE, int(LOOKS * 1000))
+            answers = self._redis.xread({self._stream: self._after}, AT_ONCE, int(LOOKS * 1000))
         except redis.RedisError as error:
             if begun - self._answered > SILENCE:
                 raise OSError(f"the Redis can't be reached: {error}") from error
             time.sleep(LOOKS / 4)
             return ()
         self._answered = begun
-        entries: Sequence[Entry] = its[0][1] if its else ()
+        entries: Sequence[Entry] = answers[0][1] if answers else ()
         if len(entries) < AT_ONCE:
             self.looked = begun
         if entries:

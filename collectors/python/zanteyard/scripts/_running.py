@@ -291,7 +291,7 @@ class ScriptRun:
         elif command[0] == "marks":
             self.history.marks = [*command[1]]
         elif command[0] == "last":
-            self.history.forget((), [its for its in command[1] if self._is_of_script(*its)])
+            self.history.forget((), [gone for gone in command[1] if self._is_of_script(*gone)])
         elif command[0] == "resumed":
             self._is_open = True
         elif command[0] == "offer":
@@ -384,7 +384,7 @@ class ScriptRun:
             return 'up to ["resumed"] only the saved state is allowed (docs/FORMATS.md)'
         if opens or line[:1] in (["marks"], ["last"], ["resumed"]):
             return "the script is open already, and only its beginning can open it"
-        if line[:1] in (["offer"], ["join"]) and any(ABORTED in its for its in line[-1]):
+        if line[:1] in (["offer"], ["join"]) and any(ABORTED in txn for txn in line[-1]):
             return '"aborted" needs a script of version 2, which begins with ["open",..,..,2]'
         return ""
 

@@ -104,8 +104,8 @@ def _spans_of(session: Any, first: Any, spans: Any) -> dict[AuditId, Span]:
     """The spans in a line. Raises ValueError or TypeError if it is malformed."""
     found: dict[AuditId, Span] = {}
     for number, (began, ended) in enumerate(spans, first):
-        its = [session, number, began, *([] if ended is None else [ended])]
-        if any(type(each) is not int or each < 0 for each in its):
+        numbers = [session, number, began, *([] if ended is None else [ended])]
+        if any(type(each) is not int or each < 0 for each in numbers):
             raise ValueError
         found[AuditId((session, number))] = (began, ended)
     return found
