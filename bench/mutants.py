@@ -256,8 +256,12 @@ def limit_of(seconds):
     return 120.0 + 8 * seconds
 
 
-def go_calls(folder, names, mutant):
-    """The tests of the joiner, the fast ones first; then those of other packages. None if it can't
+def package_of(mutant):
+    return os.path.basename(os.path.dirname(mutant.path))
+
+
+def go_calls(folder, names, mutant, its):
+    """The tests of a package, the fast ones first; then those of other packages. None if it can't
     be compiled."""
     text, overlay, program = (os.path.join(folder, name) for name in ("mutant.go", "overlay", "tests"))
     if mutant is not None:
@@ -265,7 +269,6 @@ def go_calls(folder, names, mutant):
             file.write(mutant.text())
     with open(overlay, "w", encoding="utf-8") as file:
         json.dump({"Replace": {mutant.path: text} if mutant is not None else {}}, file)
-    its = "join" if mutant is None else os.path.basename(os.path.dirname(mutant.path))
     package = os.path.join(PROXY, "src/zanteyard", its)
     made = ["go", "test", "-c", "-vet=off", "-overlay", overlay, "-o", program, f"zanteyard/{its}"]
     if subprocess.run(made, cwd=PROXY, capture_output=True, check=False).returncode:
@@ -282,7 +285,7 @@ def go_calls(folder, names, mutant):
 
 def go_fate(folder, mutant, names, limits):
     """As python_fate; "isn't one" if it can't be compiled."""
-    for one in go_calls(folder, names, mutant):
+    for one in go_calls(folder, names, mutant, package_of(mutant)):
         if one is None:
             return "isn't one", ""
         name, call, home = one
@@ -294,11 +297,11 @@ def go_fate(folder, mutant, names, limits):
     return "lives", ""
 
 
-def go_limits(folder, names):
+def go_limits(folder, names, packages):
     """The limit for each call; None if it fails without a mutant, too, since it would then find
     anything."""
-    limits = {}
-    for name, call, home in go_calls(folder, names, None):
+    limits, calls = {}, (go_calls(folder, names, None, its) for its in packages)
+    for name, call, home in itertools.chain.from_iterable(calls):
         began = time.monotonic()
         status, told = end_of(call, home, folder, LONGEST)
         limits[name] = limit_of(time.monotonic() - began) if status == 0 else None
@@ -366,7 +369,7 @@ def main():
     with tempfile.TemporaryDirectory() as folder:
         os.chmod(folder, 0o711)
         if asked.kind != "python":
-            limits = go_limits(folder, asked.tests or ())
+            limits = go_limits(folder, asked.tests or (), sorted({package_of(it) for it in mutants}))
         else:
             ran = traced(asked.tests or TESTS, asked.lines or folder)
 
