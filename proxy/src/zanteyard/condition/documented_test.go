@@ -31,6 +31,7 @@ var documented = []struct {
 	{"i4", "1", "i4 NOT IN (1, NULL)", no}, {"i4", "NULL", "i4 = ANY ('{}')", no}, {"i4", "NULL", "i4 <> ALL ('{}')", yes},
 	{"i4", "NULL", "i4 IN (1)", null}, {"i4", "5", "i4 > ALL ('{1,NULL}')", null}, {"i4", "0", "i4 > ALL ('{1,NULL}')", no},
 	{"i4", "5", "i4 > ANY ('{1,NULL}')", yes}, {"i4", "3", "i4 = ANY (NULL::int[])", null}, {"i4", "2", "i4 IN (1, 2.0)", yes},
+	{"i4", "5", "i4 > ALL (ARRAY[1, 3])", yes}, {"i4", "2", "i4 = ANY (ARRAY[1, 3, NULL])", null},
 	// BETWEEN includes its ends, and SYMMETRIC swaps them.
 	{"i4", "5", "i4 BETWEEN 5 AND 6", yes}, {"i4", "5", "i4 BETWEEN 6 AND 5", no}, {"i4", "5", "i4 BETWEEN SYMMETRIC 6 AND 5", yes},
 	{"i4", "7", "i4 NOT BETWEEN SYMMETRIC 6 AND 5", yes}, {"i4", "5", "i4 BETWEEN NULL AND 4", no}, {"i4", "5", "i4 BETWEEN NULL AND 6", null},
