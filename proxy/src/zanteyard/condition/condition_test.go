@@ -192,3 +192,34 @@ func TestIndexOfWhatNeverHolds(t *testing.T) {
 		t.Errorf("%d conditions of %d bytes are left", index.Len(), index.Bytes())
 	}
 }
+
+// TestIndexOfRangesAndTexts: a range is found by IN though it was made of another text, and a text by what it is equal to.
+func TestIndexOfRangesAndTexts(t *testing.T) {
+	_, all := open(t, "spans", oracleSchema)
+	index := condition.NewIndex(condition.Limits{Conditions: 9, Bytes: 1 << 20, Scanned: 9}, nil)
+	table, _ := all.Find("", "r")
+	for _, where := range []string{"r4 IN ('[1,2]', '[7,8)')", "i4 IN (1, 2)"} {
+		one, err := made(t, all, "SELECT * FROM r WHERE "+where, condition.Arguments{})
+		if err != nil {
+			t.Fatal(err)
+		}
+		index.Add(one)
+	}
+	of := func(column, text string) *condition.Row {
+		values := make([]condition.Value, len(table.Columns))
+		for i := range values {
+			values[i].State = condition.IsNull
+		}
+		its, _ := table.Column(column)
+		values[its.Number-1] = condition.Value{Text: text, State: condition.Present}
+		return condition.NewRow(values)
+	}
+	const ofRanges, ofNumbers = "r4 IN ('[1,2]', '[7,8)')", "i4 IN (1, 2)"
+	for _, one := range []struct{ column, text, want string }{
+		{"r4", "[1,3)", ofRanges}, {"i4", "2", ofNumbers + ", " + ofRanges}, {"i4", "3", ofRanges},
+	} {
+		if got := found(index, table.OID, of(one.column, one.text)); got != one.want {
+			t.Errorf("%s %s: %s in place of %s", one.column, one.text, got, one.want)
+		}
+	}
+}

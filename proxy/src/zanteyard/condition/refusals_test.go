@@ -102,6 +102,7 @@ func TestRefusals(t *testing.T) {
 		{"", "SELECT * FROM w WHERE tc LIKE 'x!%' ESCAPE '!'", none, "LIKE .. ESCAPE"},
 		{"", `SELECT * FROM w WHERE tc LIKE 'x\'`, none, "a pattern that ends in a backslash"},
 		{"", "SELECT * FROM w WHERE a = 1.5::float8", none, "a cast that isn't followed"},
+		{"", "SELECT * FROM w WHERE b = 1::bool", none, "a cast that isn't followed"},
 		{"", "SELECT * FROM w WHERE a = 1.5::int", none, "a cast that isn't followed"},
 		{"", "SELECT * FROM w WHERE c = 'abcdef'::char(2)", none, "a cast that isn't followed"},
 		{"", "SELECT * FROM w WHERE n = '1.55'::numeric(2,1)", none, "a cast that isn't followed"},
