@@ -354,8 +354,9 @@ SELECT count(*) FROM pg_stat_activity WHERE datname = %s AND backend_type = 'cli
 AND application_name NOT IN ('oracle', 'zanteyard')
 """
 FUNCTIONS = """
-SELECT proname FROM pg_proc JOIN pg_namespace n ON n.oid = pronamespace
-WHERE nspname !~ '^pg_' AND nspname <> 'information_schema'
+SELECT proname FROM pg_proc p JOIN pg_namespace n ON n.oid = pronamespace
+WHERE nspname !~ '^pg_' AND nspname <> 'information_schema' AND NOT EXISTS (SELECT FROM pg_depend
+    WHERE classid = 'pg_proc'::regclass AND objid = p.oid AND deptype = 'e')
 """
 KEYS = """
 SELECT format('%I.%I', nspname, relname), attname::text FROM pg_index
