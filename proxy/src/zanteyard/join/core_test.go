@@ -136,6 +136,12 @@ func TestStories(t *testing.T) {
 				Absent: []record.Absence{gone}})
 			b.settle()
 		}, []string{`["offer",0,0,[[[[1,"init"]],[1]]]]`}, absentUndone},
+		{"an absent row is left out if an operator was made meanwhile", func(b *bench) {
+			b.connect(1)
+			b.core.questions.remade = b.now
+			b.tell(1, 0, record.Transaction{Level: record.Serializable, Snapshot: "1001:1001:", Absent: []record.Absence{absent("a")}})
+			b.settle()
+		}, []string{`["offer",0,0,[[[],[]]]]`}, absentMeant},
 		{"aborted and empty transactions take no number", func(b *bench) {
 			b.connect(1)
 			b.commit(1001, "a")

@@ -198,7 +198,7 @@ func (c *core) resolveAsks(e *entry, to *resolution) bool {
 // of it saw that.
 func (c *core) mayHaveChanged(q *question, e *entry) bool {
 	began, _ := span(&e.its)
-	return c.isFromBefore(q.relation, &e.its) || !began.After(c.questions.remade) || began.Before(c.began)
+	return c.isFromBefore(q.relation, &e.its) || !c.comparedAsUsual(e) || began.Before(c.began)
 }
 
 // hidesOwn reports whether the statement may have seen a version of its own transaction's that isn't known as one.

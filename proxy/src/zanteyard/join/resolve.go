@@ -21,6 +21,7 @@ const (
 	absentAtLevel  = "an absent row, read without a snapshot"
 	absentUnknown  = "an absent row whose last known version exists"
 	absentOwn      = "an absent row that the transaction itself wrote"
+	absentMeant    = "an absent row, asked for while operators were made or dropped"
 	absentUndone   = "an absent row, asked for after a write that ROLLBACK TO may have undone"
 	tooMany        = "more than 256 reads of one transaction"
 )
@@ -233,6 +234,12 @@ func (c *core) isFromBefore(table record.Relation, it *record.Transaction) bool 
 	return is && !began.After(c.began.Add(at))
 }
 
+// comparedAsUsual reports whether no operator was seen to have been made or dropped since the transaction may have begun.
+func (c *core) comparedAsUsual(e *entry) bool {
+	began, _ := span(&e.its)
+	return began.After(c.questions.remade)
+}
+
 // resolveAbsent finds the versions that made rows absent. At read committed each statement has its own snapshot, which
 // isn't known.
 func (c *core) resolveAbsent(e *entry, to *resolution) bool {
@@ -246,7 +253,12 @@ func (c *core) resolveAbsent(e *entry, to *resolution) bool {
 		}
 		return true
 	}
+	compared := c.comparedAsUsual(e) // with the key that was asked for
 	for i, one := range e.its.Absent {
+		if !compared {
+			to.leave(-i-1, absentMeant)
+			continue
+		}
 		if one.Undone {
 			to.leave(-i-1, absentUndone)
 			continue
