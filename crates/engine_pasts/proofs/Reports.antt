@@ -1,6 +1,7 @@
 -- What an engine reports behind what is gone.
-use Rattle.std.proofs.Common.{◌≡◌, ℕ, ◌+◌, List, Option, Some, None, refl, sym, subst}
+use Rattle.std.proofs.Common.{◌≡◌, ℕ, ◌+◌, List, ◌++◌, Option, Some, None, refl, sym, subst}
 use Rattle.std.specs.Prelude.{IsSomeAnd}
+use Rattle.std.proofs.lemmas.List.{map-append}
 use Rattle.txn.specs.declared.transactions.TxnId.{TxnId}
 use Rattle.txn.specs.History.{History}
 use Rattle.order_check.specs.declared.remainder.Kind.{Kind}
@@ -18,9 +19,13 @@ use Rattle.round_state.specs.declared.reports.Report.{Report}
 use Rattle.round_state.specs.declared.steps.Step.TheVariants.{Offer, Join, Close, Begin, Finish, Judge, Abandon, Truncate, Rebuild}
 use Rattle.gone_orders.specs.Behind.{RemainsBehind}
 use Rattle.gone_orders.specs.Laws.{OrdersBehindAreOfTheWhole}
+use Rattle.snapshot_histories.specs.Halves.{event_at}
+use Rattle.snapshot_histories.specs.Laws.{OrdersIsolate}
+use Rattle.snapshot_histories.specs.Snapshot.{IsSnapshotOrder}
+use Rattle.snapshot_histories.specs.Split.{split_history}
 use Rattle.snapshot_rests.specs.Laws.{HalvesTellBehind}
-use Rattle.engine_pasts.specs.Holding.{HoldsBehind, StandsBehind}
-use Rattle.engine_pasts.specs.Laws.{HalvesAreToldBehind, ReportedOrdersStandBehind}
+use Rattle.engine_pasts.specs.Holding.{EventsStandBehind, HoldsBehind, StandsBehind}
+use Rattle.engine_pasts.specs.Laws.{HalvesAreToldBehind, ReportedEventsStandBehind, ReportedOrdersStandBehind}
 
 shown_behind : OrdersBehindAreOfTheWhole → (past : List TxnId) (front : Parts) (begun : History) (budget depth : ℕ) (kind : Kind) (certificate : Certificate) → RemainsBehind past front begun → Shows front budget depth kind certificate → StandsBehind past begun certificate
 shown_behind whole past front begun budget depth kinds.Serial (Order order) behind shows = (whole past front begun behind order).0 shows
@@ -59,3 +64,12 @@ reported_behind of_whole past old new whole begun Rebuild report to holds = absu
 
 pub told_behind : HalvesTellBehind → HalvesAreToldBehind
 told_behind tell past engine whole begun holds = record { parts = tell past engine.parts whole holds.parts; asked = λ parts e. tell past parts begun (holds.asked parts e) }
+
+-- what stands behind as halves does so as begins and commits
+events_of : OrdersIsolate → (past : List TxnId) (history : History) (certificate : Certificate) → StandsBehind past (split_history history) certificate → EventsStandBehind past history certificate
+events_of isolate past history (Order order) stands = subst (IsSnapshotOrder history) (map-append event_at past order) (isolate history (past ++ order) stands)
+events_of isolate past history (Refuted tree) stands = tt
+events_of isolate past history Nothing stands = tt
+
+pub events_behind : OrdersBehindAreOfTheWhole → OrdersIsolate → ReportedEventsStandBehind
+events_behind of_whole isolate past old new whole begun step report to holds = events_of isolate past begun report.certificate (reported_behind of_whole past old new (split_history whole) (split_history begun) step report to holds)

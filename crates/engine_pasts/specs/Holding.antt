@@ -1,5 +1,5 @@
 -- Engines that stand behind an order of what is gone.
-use Rattle.std.specs.Prelude.{◌≡◌, ◌↔◌, ⊤, List, [], ◌++◌, Contains, Some}
+use Rattle.std.specs.Prelude.{◌≡◌, ◌↔◌, ⊤, List, [], ◌++◌, Contains, Some, map}
 use Rattle.txn.specs.declared.transactions.TxnId.{TxnId}
 use Rattle.txn.specs.History.{History}
 use Rattle.order_check.specs.declared.remainder.Parts.{Parts}
@@ -9,7 +9,9 @@ use Rattle.round_state.specs.declared.reports.Certificate.{Certificate}
 use Rattle.round_state.specs.declared.reports.Certificate.TheVariants.{Order, Refuted, Nothing}
 use Rattle.round_state.specs.declared.steps.StepReply.{StepReply}
 use Rattle.round_state.specs.declared.steps.StepReply.TheVariants as reply
+use Rattle.snapshot_histories.specs.Halves.{event_at}
 use Rattle.gone_orders.specs.Behind.{RemainsBehind}
+use Rattle.snapshot_rests.specs.Behind.{KeepsBehind}
 use Rattle.whole_orders.specs.Left.{HoldsLeft}
 
 -- What the engine holds remains of the whole history behind what is gone, in this order, and its snapshot of what had been received when the
@@ -29,3 +31,10 @@ abbrev pub StandsBehind : List TxnId → History → Certificate → Type 0
 StandsBehind past history (Order order) = ExplainsWhole history (past ++ order)
 StandsBehind past history (Refuted tree) = ⊤
 StandsBehind past history Nothing = ⊤
+
+-- Where it is an order of halves: read as begins and commits it is, behind those that are gone, one of the history as it was offered that is
+-- snapshot isolation.
+abbrev pub EventsStandBehind : List TxnId → History → Certificate → Type 0
+EventsStandBehind past history (Order order) = KeepsBehind history (map event_at past) (map event_at order)
+EventsStandBehind past history (Refuted tree) = ⊤
+EventsStandBehind past history Nothing = ⊤

@@ -16,7 +16,7 @@ use Rattle.snapshot_histories.specs.Halves.{event_at}
 use Rattle.snapshot_histories.specs.Split.{split_history}
 use Rattle.gone_orders.specs.Behind.{RemainsBehind}
 use Rattle.snapshot_rests.specs.Behind.{TellBehind}
-use Rattle.engine_pasts.specs.Holding.{HoldsBehind, MovesOn, StandsBehind}
+use Rattle.engine_pasts.specs.Holding.{EventsStandBehind, HoldsBehind, MovesOn, StandsBehind}
 
 -- A fresh engine stands behind nothing.
 abbrev pub FreshEnginesHoldBehind : Type 0
@@ -45,3 +45,10 @@ pub record ToldBehind (past : List TxnId) (engine : EngineState) (whole begun : 
 
 abbrev pub HalvesAreToldBehind : Type 0
 HalvesAreToldBehind = (past : List TxnId) (engine : EngineState) (whole begun : History) → HoldsBehind past engine (split_history whole) (split_history begun) → ToldBehind past engine whole begun
+
+-- An order that an engine of halves reports is, behind the begins and commits that are gone, one of all that had been offered when the round
+-- began that is snapshot isolation.
+abbrev pub ReportedEventsStandBehind : Type 0
+ReportedEventsStandBehind =
+    (past : List TxnId) (old new : EngineState) (whole begun : History) (step : Step) (report : Report) → StepsTo old step (reply.Report report) new → HoldsBehind past old (split_history whole) (split_history begun)
+    → EventsStandBehind past begun report.certificate

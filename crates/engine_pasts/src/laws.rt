@@ -1,10 +1,11 @@
 //! Laws of engines behind what is gone. The functions do nothing.
-ghost use Rattle.engine_pasts.specs.Laws.{FreshEnginesHoldBehind, HalvesAreToldBehind, PartsHoldBehind, ReportedOrdersStandBehind, StepsHoldBehind};
+ghost use Rattle.engine_pasts.specs.Laws.{FreshEnginesHoldBehind, HalvesAreToldBehind, PartsHoldBehind, ReportedEventsStandBehind, ReportedOrdersStandBehind, StepsHoldBehind};
 
 use gone_orders::{
     arrivals_stay_behind, bare_parts_stay_behind, content_stays_behind, cuts_move_on,
     orders_behind_are_of_the_whole,
 };
+use snapshot_histories::orders_isolate;
 use snapshot_rests::halves_tell_behind;
 use whole_orders::{fresh_engines_go_on, left_parts_go_on, steps_go_on};
 
@@ -52,4 +53,13 @@ pub fn halves_are_told_behind()
 {
     // A law that the proof cites. It does nothing when it runs.
     halves_tell_behind();
+}
+
+/// An order of halves that is reported is, behind what is gone, one of begins and commits that is snapshot isolation.
+pub fn reported_events_stand_behind()
+    ensures { ReportedEventsStandBehind }
+{
+    // Laws that the proof cites. They do nothing when they run.
+    orders_behind_are_of_the_whole();
+    orders_isolate();
 }

@@ -5,5 +5,5 @@ mod laws;
 
 pub use laws::{
     fresh_engines_hold_behind, halves_are_told_behind, parts_hold_behind,
-    reported_orders_stand_behind, steps_hold_behind,
+    reported_events_stand_behind, reported_orders_stand_behind, steps_hold_behind,
 };
