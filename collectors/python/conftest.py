@@ -32,6 +32,9 @@ LONG = (
     *("restarting", "postgres_live", "bank", "shrinking", "examples", "live", "no_harm"),
     *("rounds", "proxy_drivers", "watch_whole"),
 )
+# A folder that is given is used as it is, and left to who gave it: with one more in it the paths of
+# some sockets would be too long.
+GIVEN = "ZANTEYARD_TESTS_FOLDER"
 FOLDER, STDERR = pytest.StashKey[str](), pytest.StashKey[int]()
 
 
@@ -39,7 +42,9 @@ def pytest_configure(config: pytest.Config) -> None:
     config.stash[STDERR] = os.dup(2)  # tests run with another one
     faulthandler.enable(config.stash[STDERR])
     worker: dict[str, Any] | None = getattr(config, "workerinput", None)
-    if worker is None:
+    if worker is None and GIVEN in os.environ:
+        config.stash[FOLDER] = os.environ[GIVEN]
+    elif worker is None:
         config.stash[FOLDER] = tempfile.mkdtemp()
     else:
         config.stash[FOLDER] = os.path.join(worker["folder"], worker["workerid"])
@@ -49,7 +54,7 @@ def pytest_configure(config: pytest.Config) -> None:
 
 
 def pytest_unconfigure(config: pytest.Config) -> None:
-    if not hasattr(config, "workerinput"):
+    if not hasattr(config, "workerinput") and GIVEN not in os.environ:
         end_all(config.stash[FOLDER])
         shutil.rmtree(config.stash[FOLDER], ignore_errors=True)
 

@@ -37,6 +37,7 @@ class Runner:
         self.settings = {
             **os.environ,
             "TMPDIR": folder,
+            "ZANTEYARD_TESTS_FOLDER": folder,
             "PYTHONPYCACHEPREFIX": os.path.join(folder, "compiled"),
             "ZANTEYARD_TEST_SECONDS": str(test_seconds),
             "ZANTEYARD_TESTS_END": str(ends),
