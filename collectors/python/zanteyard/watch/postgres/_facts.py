@@ -1,5 +1,6 @@
 """What a server reports about itself, as far as an audit needs it."""
 
+import secrets
 from collections.abc import Sequence
 from dataclasses import dataclass
 
@@ -13,7 +14,6 @@ PLUGIN, SHIPPED = "wal2json", "test_decoding"  # logical decoding plugins that t
 INSTALL = f"install it on the server (Debian: postgresql-NN-{PLUGIN})"
 TRUSTED = "output_plugin_libraries"  # the server's list of allowed plugins
 UNUSED = "public.zanteyard_fence"  # which versions up to 0.1.0 created
-PROBE = "zanteyard_probe"
 BEHIND_SAVEPOINTS = "the writer of a row may be unknown if it wrote after a savepoint"
 OPEN_SCHEMA = "the schema of the extension pg_walinspect doesn't belong to a superuser"
 NO_PLUGIN = ("58P01", "42704")  # undefined file, undefined object
@@ -203,10 +203,11 @@ def _trust_remedy(server: Server, trusted: str) -> str:
 
 
 def _probe(database: Database, plugin: str) -> None:
+    slot = f"zanteyard_probe_{secrets.token_hex(8)}"  # others may look at the same moment
     database.run(
-        "SELECT pg_catalog.pg_create_logical_replication_slot(%s, %s, true)", (PROBE, plugin)
+        "SELECT pg_catalog.pg_create_logical_replication_slot(%s, %s, true)", (slot, plugin)
     )
-    database.run("SELECT pg_catalog.pg_drop_replication_slot(%s)", (PROBE,))
+    database.run("SELECT pg_catalog.pg_drop_replication_slot(%s)", (slot,))
 
 
 def _trusted(database: Database) -> str | None:
