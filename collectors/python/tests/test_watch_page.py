@@ -257,7 +257,10 @@ class Endings(unittest.TestCase):
         self.assertTrue(told[0].startswith("nothing: 0 of 9 transactions were checked"), told)
         unseen = "no statement of it was seen: the statements below say why"
         self.assertIn(f"             8 transactions  {unseen}", told)
-        waits = "the audit ended before its next round: the log says why it ended"
+        waits = (
+            "the audit ended before its next round: end the audit a second after the application; "
+            "if it ended by itself, the log says why"
+        )
         self.assertIn(f"             1 transactions  {waits}", told)
 
     def test_what_no_outcome_has(self):

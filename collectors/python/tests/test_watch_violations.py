@@ -228,6 +228,22 @@ class Explained(unittest.TestCase):
         self.assertEqual([one.id for one in found.told], [(0, 0), (0, 1), (1, 0)])
         self.assertTrue(found.sentence.endswith(": T2's update is lost unless T3's built on it"))
 
+    def test_a_lost_update_within_a_longer_cycle(self):
+        """1.1 had selected the first version, and replaced 1.0's, which 0.0 has read."""
+        its = kept(
+            ["resume", 2, 16, 2],
+            ["marks", [0, 0], [False, False]],
+            feed.offer(0, 0, [[[5, 1, 0]], []]),
+            feed.offer(1, 0, [[[5, "init"]], [5]], [[[5, "init"], [5, 1, 0]], [5]]),
+            ["resumed"],
+        )
+        cycle, _ = cycles_of(its, SERIALIZABLE).cycles
+        self.assertEqual(len(cycle.ids), 3)
+        report = ["report", 1, "violated", [1, 2], []]
+        found = explained(1, report, Held(its, report, cycle, {}), NOTHING, PROGRAM, feed.AT)
+        self.assertEqual(found.title, "lost update")
+        self.assertEqual([one.id for one in found.told], [(1, 0), (1, 1)])
+
     def test_it_is_shown_by_reads(self):
         """Not by session order, if it is there without that, too."""
         its = kept(

@@ -81,7 +81,7 @@ func (c *core) enter(it record.Connection) {
 		}
 		return
 	}
-	if conn := c.connections[it.Number]; conn != nil { // its name is reported again, for example after SET application_name
+	if conn := c.connections[it.Number]; conn != nil { // it is known
 		conn.its = it
 		return
 	}

@@ -211,6 +211,10 @@ class Held:
             transactions = {
                 one: transactions[one] for one in cycle.deeds() if one in transactions
             }
+            if self.lost is None:
+                self.lost = both_replaced(transactions, counts, keys)
+                if self.lost is not None:
+                    keys = {*keys, self.lost.key}
         self.keys = keys
         last = kept.last(keys) if last is None else last
         self.base = {key_text(key): its for key, its in last.items() if key in keys}
