@@ -28,7 +28,7 @@ func (s *Session) note(e *expectation) *record.Statement {
 		t.Dropped++
 		return nil
 	}
-	st := record.Statement{Text: e.on.text, At: s.now, From: from, To: to}
+	st := record.Statement{Text: e.on.text, At: e.sent, From: from, To: to}
 	if e.part < len(e.pieces) {
 		st.Text = e.pieces[e.part].text
 	}
