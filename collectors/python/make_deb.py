@@ -160,7 +160,10 @@ def man_pages(version: str) -> Iterator[tuple[str, str]]:
         f".SH DESCRIPTION\n{roff(whole.description or '')}\n.SH COMMANDS\n{listed}"
     )
     for name, its in COMMANDS.items():
-        page = str(Manpage(whole.commands[name]))
+        made = Manpage(whole.commands[name])
+        # By itself it takes what is behind the usage's last colon, which may be that of HOST:PORT.
+        made.synopsis = whole.commands[name].format_usage().partition(":")[2].split()
+        page = str(made)
         body = page[page.index(".SH SYNOPSIS"):]
         example, _, rest = (whole.commands[name].epilog or "").partition("\n\n")
         example = roff(example.removeprefix("example:\n").strip())

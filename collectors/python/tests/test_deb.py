@@ -160,6 +160,7 @@ class Deb(unittest.TestCase):
             self.assertIn(f"zanteyard-{name}(1) {its.about}", pages["zanteyard"])
             self.assertIn(f"zanteyard-{name} - {its.about}", pages[f"zanteyard-{name}"])
             self.assertIn(" ".join(its.example.split()), pages[f"zanteyard-{name}"])
+            self.assertIn(f"SYNOPSIS zanteyard {name} [", pages[f"zanteyard-{name}"])
             options = parser(name).commands[name].options
             for option in options:
                 if option.help != argparse.SUPPRESS and option.dest != "help":
