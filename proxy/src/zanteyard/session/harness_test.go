@@ -62,7 +62,7 @@ GRANT SELECT (v) ON t TO limited;
 GRANT SELECT, UPDATE ON u TO limited;
 `
 
-// fill restores all rows without changing definitions.
+// fill restores all rows without changing definitions. What the planner knows of them doesn't depend on when it is run.
 const fill = `
 DELETE FROM child; DELETE FROM t; DELETE FROM u; DELETE FROM big; DELETE FROM keyless; DELETE FROM part;
 DELETE FROM serials;
@@ -72,6 +72,7 @@ INSERT INTO part SELECT i * 20, i FROM generate_series(1, 9) i;
 INSERT INTO keyless VALUES (1, 1), (2, 2);
 INSERT INTO child SELECT i, i FROM generate_series(1, 5) i;
 SELECT setval('serials_id_seq', 1, false);
+ANALYZE t; ANALYZE u; ANALYZE part; ANALYZE child;
 `
 
 func TestMain(m *testing.M) {
@@ -83,7 +84,7 @@ func TestMain(m *testing.M) {
 				return 1
 			}
 		}
-		theCluster, missing = cluster.Start(nil, nil)
+		theCluster, missing = cluster.Start([]string{"autovacuum=off"}, nil)
 		if missing != nil && !errors.Is(missing, cluster.ErrMissing) {
 			fmt.Fprintln(os.Stderr, missing)
 			return 1
