@@ -331,7 +331,7 @@ func (s *Session) bindHidden(o *output, b *wire.Bind, st *statement, p *portal) 
 	}
 	p.binary, p.changed = b.Binary(), true
 	if st.plan.Kind != plan.Declare {
-		p.hides, p.hidden = st.plan, st.use.hidden
+		p.hides, p.hidden, p.own = st.plan, st.use.hidden, st.use.own
 	}
 	if st.plan.Kind == plan.Declare || p.name != "" { // SQL's FETCH knows the portal by its name
 		s.names.hides = true

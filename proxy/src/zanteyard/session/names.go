@@ -55,6 +55,7 @@ type portal struct {
 	changed    bool       // its statement is rewritten
 	hides      *plan.Plan // nil if it has no hidden columns
 	hidden     int
+	own        int // columns of the client's own, if it has hidden ones
 	binary     bool
 	asked      asked
 	parameters []string
@@ -110,7 +111,7 @@ func (n *names) cursor(name string) *cursor {
 	return nil
 }
 
-func (p *portal) cursor() *cursor { return &cursor{p.hides, neverEra, p.on.use.own} }
+func (p *portal) cursor() *cursor { return &cursor{p.hides, neverEra, p.own} }
 
 // fetchable reports whether FETCH may return hidden columns.
 func (n *names) fetchable() bool {
