@@ -63,7 +63,11 @@ def proved(name: str, is_built: bool) -> str:
     """The proved program. Raises CantPackError."""
     path = built(name)
     if not is_built:
-        print(f"{name}: asking the prover (this takes long where something has changed)")
+        print(
+            f"{name}: asking the prover, which takes up to an hour if it isn't proved yet "
+            "(--unproved builds a slow one in a minute or two)",
+            flush=True,
+        )
         words = ["rt", "run", name, "--", "--version"]
         folder = os.path.join(TOP, "crates", name)
         try:

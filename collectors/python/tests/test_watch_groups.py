@@ -262,16 +262,27 @@ class Runs(test_watch_run.Runs):
     def test_a_known_one(self):
         told, _ = self.run_of(self.PARTS, is_done=lambda its: its.violations and its.seen.reads)
         known = frozenset({self.name_of(told)})
-        told, status = self.run_of(
-            self.PARTS,
-            is_done=lambda its: its.known_count and its.seen.reads,
-            known=known,
-            hooks=Hooks("exit 1"),
-        )
+        with self.assertNoLogs("zanteyard", "ERROR"):
+            told, status = self.run_of(
+                self.PARTS,
+                is_done=lambda its: its.known_count and its.seen.reads,
+                known=known,
+                hooks=Hooks("exit 1"),
+            )
         self.assertEqual(status, 0)
         self.assertEqual(told[0].split(":")[0], "serial")
         self.assertIn("  1 known violation was set aside (--ignore), of 1 shape", told)
         self.assertFalse(any(line.startswith("violated") for line in told))
+
+    def test_one_that_is_not_known(self):
+        with self.assertLogs("zanteyard", "ERROR") as logged:
+            told, status = self.run_of(
+                self.PARTS,
+                is_done=lambda its: its.violations and its.seen.reads,
+                known=frozenset({"fb2ff3cf"}),
+            )
+        self.assertEqual(status, 1)
+        self.assertRegex(logged.output[0], f"violation 1 isn't known: {self.name_of(told)}$")
 
     def test_json(self):
         told, _ = self.run_of(

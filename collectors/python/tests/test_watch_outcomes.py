@@ -17,8 +17,10 @@ AT = 1764220800.25
 ONE, OTHER = AuditId((1, 0)), AuditId((2, 0))
 
 
-def status(*violations, written=Total(9, 6, {}, {"in a table without a key": 3}), **more):
-    totals = Totals(transactions=Total(5, 5), selects=Total(7, 7), rows_written=written)
+def status(
+    *violations, written=Total(9, 6, {}, {"in a table without a key": 3}), selects=Total(7, 7), **more
+):
+    totals = Totals(transactions=Total(5, 5), selects=selects, rows_written=written)
     its = {"violations": violations, "violations_count": len(violations), "rounds_count": 2, **more}
     return Status("shop", AT, AT + 9, kind="serial", seen=Seen(totals), **its)
 
@@ -42,6 +44,13 @@ class FirstLines(unittest.TestCase):
         for written in (Total(9, 1, {}, {"an aggregate": 8}), Total(9, 0, waiting=9)):
             self.assertNotIn("Too little", changing(status(written=written)))
         self.assertTrue(next(lines_of(status())).startswith("serial: 5 of 5 transactions, "))
+
+    def test_without_a_select_that_was_checked(self):
+        first, second, *_ = lines_of(status(selects=Total(7, 0, {}, {"an aggregate": 7})))
+        self.assertTrue(first.startswith("serial, but too little was looked at: 5 of 5 "), first)
+        self.assertEqual(second, "  of 7 SELECTs none was checked")
+        for selects in (Total(7, 1, {}, {"an aggregate": 6}), Total(7, 0, {"x": 7}), Total()):
+            self.assertNotIn("too little", next(lines_of(status(selects=selects))))
 
     def test_whether_the_level_allows_it(self):
         committed, serializable, unknown = "read committed", "serializable", "unknown"

@@ -274,8 +274,8 @@ class Endings(unittest.TestCase):
             self.assertEqual(
                 [line.strip() for line in told if "before this run" in line],
                 [
-                    "before this run's first audit 5,210 transactions ended in audits whose `watch` "
-                    "was killed: no outcome has them",
+                    "before this run's first audit 5,210 transactions ended after the last round of "
+                    "an audit, or in one whose `watch` was killed: no outcome has them",
                     "before this run's first audit 1 transaction ended while nothing was audited",
                 ],
             )

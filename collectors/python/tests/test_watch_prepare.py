@@ -182,12 +182,12 @@ class Reports(unittest.TestCase):
                 "  note    pg_walinspect isn't created",
                 "            create it",
                 "the least role for an audit",
-                "  CREATE ROLE zanteyard LOGIN REPLICATION PASSWORD '..'",
-                "  GRANT CONNECT ON DATABASE \"shop\" TO zanteyard (if PUBLIC may not connect)",
-                "  GRANT EXECUTE ON FUNCTION pg_get_wal_record_info(pg_lsn) TO zanteyard (if the "
-                "extension pg_walinspect is there)",
-                "  ALTER ROLE zanteyard SET log_min_messages = error (as a superuser: so that rows of "
-                "tables without a key are counted)",
+                "  CREATE ROLE zanteyard LOGIN REPLICATION; -- then, in psql: \\password zanteyard",
+                "  GRANT CONNECT ON DATABASE shop TO zanteyard; -- if PUBLIC may not connect",
+                "  GRANT EXECUTE ON FUNCTION pg_get_wal_record_info(pg_lsn) TO zanteyard; -- if the "
+                "extension pg_walinspect is there",
+                "  ALTER ROLE zanteyard SET log_min_messages = error; -- as a superuser, so that rows "
+                "of tables without a key are counted",
                 "the tables: 1 of 2 tables can be audited",
                 "  b: no primary key",
                 "    add one",
@@ -289,7 +289,7 @@ class OverAServer(unittest.TestCase):
         self.assertEqual(slots, 0)  # the slots that were tried are gone
 
     def test_2_b_a_table_that_an_earlier_version_made(self):
-        drop = "DROP TABLE public.zanteyard_fence"
+        drop = "DROP TABLE public.zanteyard_fence;"
         self.assertNotIn(drop, "\n".join(self.prepare()[1]))
         with Database(self.url) as database:
             database.run("CREATE TABLE public.zanteyard_fence (id integer PRIMARY KEY, n bigint)")
@@ -343,16 +343,16 @@ class OverAServer(unittest.TestCase):
         )
         self.assertNotIn("public.temporary", found)
         for name, wanted in (
-            ("no_key", "(..)"),
-            ("by_null", "(..)"),
-            ("indexed", 'USING INDEX "by ""a"""'),
-            ("bound", '(a, "B")'),
-            ("backwards", "(a)"),
+            ("no_key", "(..); -- the columns that identify a row"),
+            ("by_null", "(..); -- the columns that identify a row"),
+            ("indexed", 'USING INDEX "by ""a""";'),
+            ("bound", '(a, "B");'),
+            ("backwards", "(a);"),
         ):
             with self.subTest(table=name), Database(self.url) as database:
                 remedy = found[f"public.{name}"].remedy
                 self.assertEqual(remedy, f"ALTER TABLE public.{name} ADD PRIMARY KEY {wanted}")
-                if wanted != "(..)":  # the statement makes it seen
+                if not wanted.startswith("(..)"):  # the statement makes it seen
                     database.run(remedy)
                     now = {table.name: table for table in tables_of(database)}
                     self.assertTrue(now[f"public.{name}"].is_seen)
@@ -390,19 +390,22 @@ class OverAServer(unittest.TestCase):
         at = lines.index(
             "the role: the role postgres is a superuser, which an audit doesn't need; this one is enough"
         )
-        made = [line.strip().split(" (if ")[0] for line in lines[at + 1 : at + 4]]
+        made = lines[at + 1 : at + 5]
         with Database(self.url, options="-c search_path=public") as database:
             if database.one("SELECT 1 FROM pg_available_extensions WHERE name = 'pg_walinspect'"):
                 database.run("CREATE EXTENSION pg_walinspect")
             else:
-                made = made[:2]
-            for statement in made:
-                database.run(statement)
+                del made[2]
+        pasted = subprocess.run(
+            [program("psql"), "-X", "-v", "ON_ERROR_STOP=1", self.url],
+            input="\n".join(made), capture_output=True, text=True,
+        )
+        self.assertEqual((pasted.returncode, pasted.stderr), (0, ""), made)
         status, lines = self.prepare(url=self.url.replace("postgres@", "zanteyard@"))
         self.assertEqual((status, lines[-1]), (0, "ready: an audit can begin"), lines)
         self.assertIn("the least role for an audit", lines)
         self.assertFalse([it for it in lines if "pg_read_server_files" in it], lines)
-        if len(made) > 2:
+        if len(made) > 3:
             self.assertIn("  ok      pg_walinspect exists, and zanteyard may call it", lines)
         self.leave()
 
@@ -438,7 +441,7 @@ class OverAServer(unittest.TestCase):
                 ("UPDATE pg_extension SET extowner = 'maker'::regrole WHERE extname = 'pg_walinspect'", hers),
                 ("ALTER EXTENSION pg_walinspect SET SCHEMA m",
                  "the schema of the extension pg_walinspect doesn't belong to a superuser"),
-                ("ALTER EXTENSION pg_walinspect SET SCHEMA m", "            as a superuser: ALTER EXTENSION pg_walinspect SET SCHEMA pg_catalog"),
+                ("ALTER EXTENSION pg_walinspect SET SCHEMA m", "            ALTER EXTENSION pg_walinspect SET SCHEMA pg_catalog; -- as a superuser"),
                 ("ALTER EXTENSION pg_walinspect SET SCHEMA pg_catalog", "  ok      pg_walinspect exists, and postgres may call it"),
                 (f"SET ROLE maker; {made}; RESET ROLE; ALTER EXTENSION pg_walinspect DROP FUNCTION "
                  "pg_get_wal_record_info(pg_lsn); ALTER EXTENSION pg_walinspect ADD FUNCTION "

@@ -382,7 +382,7 @@ class Command(InAFolder):
         self.assertEqual(
             second,
             "  wal_level is replica, but must be logical: ALTER SYSTEM SET wal_level = 'logical'; "
-            "then restart the server",
+            "-- then restart the server",
         )
         self.assertNotIn("secret", errors)
 

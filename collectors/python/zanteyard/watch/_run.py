@@ -193,6 +193,8 @@ class Run:
         if group.is_known:
             logger.info("violation %d is known (%s), and set aside", one.number, group.name)
             return
+        if self._explaining.groups.may_be_known:
+            logger.error("VIOLATED: violation %d isn't known: %s", one.number, group.name)
         with self._turn:
             self.board.violation(one)
             self.plan.hooks.tell({"event": "violation", **violation_json(one)})

@@ -160,7 +160,8 @@ class Watching:
             self._logged_kind, self._logged_at = kind, now
         logger.log(
             logging.INFO if is_due else logging.DEBUG,
-            "round %d: %s; %d transactions, %d of them held in memory; %.1f s behind",
+            "round %d: %s; %d transactions with the audit's own, %d of them held in memory; "
+            "%.1f s behind",
             number, word_of(kind, self.auditing.promise), seen.taken, seen.remaining, seen.behind,
         )
         if kind == Kind.PENDING and now >= self._looked_at + PENDING:
@@ -215,7 +216,11 @@ class Watching:
         self.board.finds(count)
         sentence = self.auditing.promise.sentence(Kind.VIOLATED)
         more = f" ({count} times)" if count > 1 else ""
-        logger.error("VIOLATED: %s%s; explanation follows", sentence, more)
+        if self.explaining.groups.may_be_known:  # its explanation tells whether it is
+            logger.info("violated: %s%s; known violations are set aside", sentence, more)
+        else:
+            told = "the first of each shape is explained"
+            logger.error("VIOLATED: %s%s; %s", sentence, more, told)
         self.explaining.begin(
             found.report,
             found.held,

@@ -160,7 +160,7 @@ func (b *Inbox) drop(it *record.Transaction) {
 
 // sizeOf returns about how many bytes a transaction takes.
 func sizeOf(it *record.Transaction) int {
-	n := 256 + 48*(len(it.Reads)+len(it.Absent)) + 4*len(it.Versions) + textsOf(it.Statements)
+	n := 256 + 48*(len(it.Reads)+len(it.Absent)) + 4*len(it.Versions) + textsOf(it.Statements) + len(it.Application)
 	for _, one := range it.Reads {
 		n += len(one.Key)
 	}

@@ -133,6 +133,9 @@ func (c *core) keep(s *session, e *entry, to *resolution, inLine int) {
 	one.its.Reads, one.its.Absent, one.its.Versions, one.its.Did = nil, nil, nil, record.Did{}
 	if e.conn != nil {
 		one.from = e.conn.its
+		if its := e.its.Application; its != "" {
+			one.from.ApplicationName = its
+		}
 	}
 	one.bytes = textsOf(e.its.Statements)
 	if c.texts+one.bytes > c.opt.Texts {

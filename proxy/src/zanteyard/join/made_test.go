@@ -61,3 +61,19 @@ func TestReadsWithoutStatements(t *testing.T) {
 		}
 	}
 }
+
+// TestApplicationOfATransaction: a transaction is described with the application_name that it had, which may not be its
+// connection's first one.
+func TestApplicationOfATransaction(t *testing.T) {
+	for _, x := range []struct{ later, want string }{{"", "first"}, {"orders", "orders"}} {
+		b := newBench(t, Options{Sessions: 2})
+		b.core.enter(record.Connection{Number: 1, ApplicationName: "first"})
+		b.tell(1, 0, record.Transaction{Reads: []record.Read{read("a", 7)}, Application: x.later})
+		b.settle()
+		var it Description
+		b.core.describe(b.core.sessions[0].kept[0], &it)
+		if it.From.ApplicationName != x.want || it.From.Number != 1 {
+			t.Errorf("%+v, wanted %q", it.From, x.want)
+		}
+	}
+}

@@ -146,6 +146,9 @@ type Transaction struct {
 	Did        Did
 	Statements []Statement
 	Dropped    int // how many further statements it had: their texts would have taken too much room
+	// Application is the connection's application_name, as the server had reported it last when the transaction ended. It
+	// may differ from the connection's first one. "" if the server reported none.
+	Application string
 	// Elsewhere means that the connection didn't show that it is to the audited server: nothing else is told.
 	Elsewhere bool
 	// Unaudited means that no audit ran when it ended, or that the connection had not shown yet that it is to the server of

@@ -45,7 +45,7 @@ type transaction struct {
 
 // sizeOf returns about how many bytes a transaction takes.
 func sizeOf(it *record.Transaction) int {
-	n := 256 + len(it.Snapshot) + 4*len(it.Versions)
+	n := 256 + len(it.Snapshot) + 4*len(it.Versions) + len(it.Application)
 	for _, one := range it.Reads {
 		n += 24 + len(one.Key)
 	}

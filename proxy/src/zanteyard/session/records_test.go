@@ -35,6 +35,34 @@ func keysOf(reads []record.Read) []string {
 	return all
 }
 
+// TestApplicationName: each transaction has the name that its connection had at its end, as far as the server had
+// reported it by then: also one that was set later.
+func TestApplicationName(t *testing.T) {
+	sql(t, fill)
+	p := through(t, "postgres", nil)
+	const asks = "SELECT v FROM t WHERE id = 1"
+	for _, x := range []struct {
+		texts  []string
+		wanted string
+	}{
+		{[]string{asks}, "test"},
+		{[]string{"SET application_name = 'orders'", asks}, "orders"},
+		{[]string{"BEGIN", "SET LOCAL application_name = 'billing'", asks, "ROLLBACK"}, "billing"},
+		{[]string{asks}, "orders"},
+		{[]string{"BEGIN", "SET application_name = 'stock'", asks, "COMMIT"}, "stock"},
+		{[]string{"RESET application_name", asks}, "test"},
+	} {
+		for _, text := range x.texts {
+			p.query(text)
+		}
+		p.settle()
+		got := p.sink.take()
+		if len(got) != 1 || got[0].Application != x.wanted {
+			t.Errorf("%q: %+v, wanted %q", x.texts, got, x.wanted)
+		}
+	}
+}
+
 // TestRecords runs transactions whose statements were tried, and compares what is reported of them.
 func TestRecords(t *testing.T) {
 	needServer(t)

@@ -122,6 +122,9 @@ func (s *Session) unasked(o *output, m []byte, start, end int) {
 	o.pass(start, end)
 }
 
+// mostOfName is how many bytes of an application_name are kept. PostgreSQL keeps 63.
+const mostOfName = 256
+
 // parameter handles a ParameterStatus.
 func (s *Session) parameter(m []byte) {
 	name, rest, _ := wire.Text(m[wire.Header:])
@@ -134,7 +137,13 @@ func (s *Session) parameter(m []byte) {
 		s.setEncoding(string(value))
 	case "standard_conforming_strings":
 		s.standard = string(value) == "on"
-	case "application_name", "TimeZone", "DateStyle", "IntervalStyle":
+	case "application_name":
+		if len(value) > mostOfName {
+			value = value[:mostOfName]
+		}
+		s.application = string(value)
+		return
+	case "TimeZone", "DateStyle", "IntervalStyle":
 		return
 	default:
 		if s.status != 0 {

@@ -109,23 +109,25 @@ type Session struct {
 	runs       bool       // what the client sends next runs something
 	next       []*use     // the plans that it needs
 	charset    string     // the client's encoding, as the server reports it
-	encoding   bool       // texts can be looked at: the client's encoding and settings allow it
-	standard   bool
-	plain      bool
-	level      level // that transactions begin at
-	names      names
-	trust      trust
-	trial      *trial
-	tx         transaction
-	place      uint64
-	defines    bool // the transaction changes definitions
-	now        time.Time
-	slow       time.Time // until then no statement waits for a trial
-	toClient   output
-	columns    []wire.Column
-	ends       []int
-	values     [][]byte
-	reads      []record.Read
+	// application is the connection's application_name, as the server reports it.
+	application string
+	encoding    bool // texts can be looked at: the client's encoding and settings allow it
+	standard    bool
+	plain       bool
+	level       level // that transactions begin at
+	names       names
+	trust       trust
+	trial       *trial
+	tx          transaction
+	place       uint64
+	defines     bool // the transaction changes definitions
+	now         time.Time
+	slow        time.Time // until then no statement waits for a trial
+	toClient    output
+	columns     []wire.Column
+	ends        []int
+	values      [][]byte
+	reads       []record.Read
 }
 
 // Conn is a connection: a net.Conn, or one of a loop.

@@ -182,6 +182,7 @@ func (s *Session) finish(outcome record.Outcome) {
 		if outcome == record.Unclear {
 			t.dropAsks()
 		}
+		t.Application = s.application
 		s.report(&t.Transaction)
 	}
 	s.set(outcome)

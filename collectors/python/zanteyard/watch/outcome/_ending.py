@@ -101,7 +101,11 @@ def lines_of(status: Status) -> Iterator[str]:
 def _before(status: Status) -> Iterator[str]:
     """What ended before this run's first audit, and is in no outcome."""
     for count, why in (
-        (status.untold_before, "in audits whose `watch` was killed: no outcome has them"),
+        (
+            status.untold_before,
+            "after the last round of an audit, or in one whose `watch` was killed: no outcome has "
+            "them",
+        ),
         (status.unaudited_before, "while nothing was audited"),
     ):
         if count:
@@ -109,10 +113,12 @@ def _before(status: Status) -> Iterator[str]:
 
 
 def too_little(totals: Totals) -> str:
-    """Why it says little that there is no violation: a write that was checked is in each. Empty if
-    one was."""
-    written = totals.rows_written
+    """Why it says little that there is no violation: no write was checked, and one is in each, or
+    no SELECT was. Empty if both were."""
+    written, selects = totals.rows_written, totals.selects
     if written.checked or written.partly or written.waiting:
+        if selects.all and not (selects.checked or selects.partly or selects.waiting):
+            return f"of {counted(selects.all, 'SELECT')} none was checked"
         return ""
     if not written.all:
         return "no row was written through the proxy, and without a write there is no violation"

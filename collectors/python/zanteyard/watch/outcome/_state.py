@@ -187,7 +187,7 @@ class Status:
     restarts: int = 0
     at_least: float = 0.0  # percent that have to be checked
     # Transactions that ended before this run's first audit, and that no outcome has: while nothing
-    # was audited, and in audits whose `watch` was killed.
+    # was audited, and in earlier audits that didn't tell of them in their last round.
     unaudited_before: int = 0
     untold_before: int = 0
 

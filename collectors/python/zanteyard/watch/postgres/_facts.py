@@ -8,6 +8,7 @@ from ._database import Database, DatabaseError
 from ._hosts import (
     AUDITOR, KEEP, PLUGINS, REPLICATION, ROLE, SENDERS, SLOTS, WAL_LEVEL, WALINSPECT, Host, host_of
 )
+from ._schema import quoted
 
 OLDEST = 130000  # PostgreSQL 13
 PLUGIN, SHIPPED = "wal2json", "test_decoding"  # logical decoding plugins that the proxy can use
@@ -62,13 +63,13 @@ def least_role(server: Server) -> list[str]:
     made = [server.host.remedy(ROLE, AUDITOR)]
     if AUDITOR not in made[0]:
         return made
-    database = '"' + server.database.replace('"', '""') + '"'
-    made.append(f"GRANT CONNECT ON DATABASE {database} TO {AUDITOR} (if PUBLIC may not connect)")
+    database = quoted(server.database)
+    made.append(f"GRANT CONNECT ON DATABASE {database} TO {AUDITOR}; -- if PUBLIC may not connect")
     if server.number >= 150000:
         called = f"GRANT EXECUTE ON FUNCTION pg_get_wal_record_info(pg_lsn) TO {AUDITOR}"
-        made.append(f"{called} (if the extension pg_walinspect is there)")
+        made.append(f"{called}; -- if the extension pg_walinspect is there")
     quiet = f"ALTER ROLE {AUDITOR} SET log_min_messages = error"
-    made.append(f"{quiet} (as a superuser: so that rows of tables without a key are counted)")
+    made.append(f"{quiet}; -- as a superuser, so that rows of tables without a key are counted")
     return made
 
 
@@ -104,7 +105,7 @@ def _wal_level(database: Database, server: Server) -> Finding:
     level = database.one("SELECT pg_catalog.current_setting('wal_level')")
     if level == "logical":
         return Finding(True, True, "wal_level is logical")
-    remedy = server.host.remedy(WAL_LEVEL, server.user)
+    remedy = server.host.remedy(WAL_LEVEL, quoted(server.user))
     return Finding(False, True, f"wal_level is {level}, but must be logical", remedy)
 
 
@@ -128,7 +129,7 @@ def _room(server: Server, setting: str, most: int, used: int, what: str, name: s
     told = f"{setting} is {most}; {used} {name} are in use"
     if used < most:
         return Finding(True, True, told)
-    remedy = server.host.remedy(what, server.user)
+    remedy = server.host.remedy(what, quoted(server.user))
     return Finding(False, True, f"{told}, and the audit needs one more", remedy)
 
 
@@ -144,7 +145,7 @@ def _replication(database: Database, server: Server) -> Finding:
         )
     if may:
         return Finding(True, True, f"the role {server.user} has the right to replicate")
-    remedy = server.host.remedy(REPLICATION, server.user)
+    remedy = server.host.remedy(REPLICATION, quoted(server.user))
     return Finding(False, True, f"the role {server.user} lacks the right to replicate", remedy)
 
 
@@ -199,7 +200,7 @@ def _is_missing(database: Database) -> bool:
 
 
 def _trust_remedy(server: Server, trusted: str) -> str:
-    return server.host.remedy(PLUGINS, server.user).replace("{trusted}", trusted)
+    return server.host.remedy(PLUGINS, quoted(server.user)).replace("{trusted}", trusted)
 
 
 def _probe(database: Database, plugin: str) -> None:
@@ -219,7 +220,7 @@ def _trusted(database: Database) -> str | None:
 def _walinspect(database: Database, server: Server) -> Finding:
     told = "pg_walinspect"
     without = f"without it, {BEHIND_SAVEPOINTS}"
-    remedy = server.host.remedy(WALINSPECT, server.user)
+    remedy = server.host.remedy(WALINSPECT, quoted(server.user))
     if server.number < 150000:
         return Finding(False, False, f"{told} needs PostgreSQL 15; {without}")
     rows = database.run(
@@ -232,7 +233,7 @@ def _walinspect(database: Database, server: Server) -> Finding:
         return Finding(False, False, f"the extension {told} isn't created; {without}", remedy)
     reason = _not_inspecting(database, server)
     if reason == OPEN_SCHEMA:
-        remedy = "as a superuser: ALTER EXTENSION pg_walinspect SET SCHEMA pg_catalog"
+        remedy = "ALTER EXTENSION pg_walinspect SET SCHEMA pg_catalog; -- as a superuser"
     if reason:
         return Finding(False, False, f"{reason}; {without}", remedy)
     return Finding(True, False, f"{told} exists, and {server.user} may call it")
@@ -281,7 +282,7 @@ def _keep(database: Database, server: Server) -> Finding:
         "max_slot_wal_keep_size has no limit: the server keeps WAL for an audit that can't keep "
         "up. The audit's slot is temporary and disappears with its connection"
     )
-    return Finding(False, False, told, server.host.remedy(KEEP, server.user))
+    return Finding(False, False, told, server.host.remedy(KEEP, quoted(server.user)))
 
 
 def _rules(database: Database) -> list[Finding]:
@@ -317,4 +318,4 @@ def _unused(database: Database) -> list[Finding]:
     if database.one("SELECT pg_catalog.to_regclass(%s)", (UNUSED,)) is None:
         return []
     told = f"the table {UNUSED} was made for an earlier version, and nothing uses it any more"
-    return [Finding(False, False, told, f"DROP TABLE {UNUSED}")]
+    return [Finding(False, False, told, f"DROP TABLE {UNUSED};")]

@@ -16,7 +16,9 @@ AUDITOR = "zanteyard"  # the least role's name, as a proposal
 
 @dataclass(frozen=True)
 class Host:
-    """A provider that runs servers, and how each thing is set there. {user} stands for the role."""
+    """A provider that runs servers, and how each thing is set there. {user} stands for the role
+    in SQL syntax. Statements end with a semicolon, and comments begin with `--`, so that a line can
+    be given to psql as it is."""
 
     name: str
     remedies: Mapping[str, str]
@@ -28,25 +30,26 @@ class Host:
 OWN = Host(
     "",
     {
-        WAL_LEVEL: "ALTER SYSTEM SET wal_level = 'logical'; then restart the server",
-        SLOTS: "ALTER SYSTEM SET max_replication_slots = 10; then restart the server",
-        SENDERS: "ALTER SYSTEM SET max_wal_senders = 10; then restart the server",
-        REPLICATION: "as a superuser: ALTER ROLE {user} REPLICATION",
-        WALINSPECT: "as a superuser: CREATE EXTENSION pg_walinspect SCHEMA pg_catalog; "
-        "GRANT EXECUTE ON FUNCTION pg_get_wal_record_info(pg_lsn) TO {user}",
-        ROLE: "CREATE ROLE {user} LOGIN REPLICATION PASSWORD '..'",
-        KEEP: "ALTER SYSTEM SET max_slot_wal_keep_size = '4GB'; SELECT pg_reload_conf()",
-        PLUGINS: "ALTER SYSTEM SET output_plugin_libraries = {trusted}; SELECT pg_reload_conf(). "
-        "Every role with the right to replicate may then use it. With a hosting provider: the "
-        "parameter output_plugin_libraries, if offered",
+        WAL_LEVEL: "ALTER SYSTEM SET wal_level = 'logical'; -- then restart the server",
+        SLOTS: "ALTER SYSTEM SET max_replication_slots = 10; -- then restart the server",
+        SENDERS: "ALTER SYSTEM SET max_wal_senders = 10; -- then restart the server",
+        REPLICATION: "ALTER ROLE {user} REPLICATION; -- as a superuser",
+        WALINSPECT: "CREATE EXTENSION pg_walinspect SCHEMA pg_catalog; "
+        "GRANT EXECUTE ON FUNCTION pg_get_wal_record_info(pg_lsn) TO {user}; -- as a superuser",
+        ROLE: "CREATE ROLE {user} LOGIN REPLICATION; -- then, in psql: \\password {user}",
+        KEEP: "ALTER SYSTEM SET max_slot_wal_keep_size = '4GB'; SELECT pg_reload_conf();",
+        PLUGINS: "ALTER SYSTEM SET output_plugin_libraries = {trusted}; SELECT pg_reload_conf(); "
+        "-- every role with the right to replicate may then use it; with a hosting provider it is "
+        "the parameter output_plugin_libraries, if offered",
     },
 )
 _AMAZON = {
     SLOTS: "in the parameter group: max_replication_slots = 10; then reboot",
     SENDERS: "in the parameter group: max_wal_senders = 10; then reboot",
-    REPLICATION: "as the master user: GRANT rds_replication TO {user}",
-    ROLE: "CREATE ROLE {user} LOGIN PASSWORD '..'; GRANT rds_replication TO {user}",
-    WALINSPECT: "as the master user: CREATE EXTENSION pg_walinspect, if this version offers it",
+    REPLICATION: "GRANT rds_replication TO {user}; -- as the master user",
+    ROLE: "CREATE ROLE {user} LOGIN; GRANT rds_replication TO {user}; -- then, in psql: "
+    "\\password {user}",
+    WALINSPECT: "CREATE EXTENSION pg_walinspect; -- as the master user, if this version offers it",
     KEEP: "in the parameter group: max_slot_wal_keep_size, in MB",
 }
 RDS = Host(
@@ -71,8 +74,8 @@ CLOUD_SQL = Host(
         WAL_LEVEL: "under Edit, Flags: cloudsql.logical_decoding = on; the instance restarts",
         SLOTS: "under Edit, Flags: max_replication_slots = 10; the instance restarts",
         SENDERS: "under Edit, Flags: max_wal_senders = 10; the instance restarts",
-        REPLICATION: "as the user postgres: ALTER USER {user} WITH REPLICATION",
-        WALINSPECT: "as the user postgres: CREATE EXTENSION pg_walinspect, if it is offered",
+        REPLICATION: "ALTER USER {user} WITH REPLICATION; -- as the user postgres",
+        WALINSPECT: "CREATE EXTENSION pg_walinspect; -- as the user postgres, if it is offered",
         KEEP: "under Edit, Flags: max_slot_wal_keep_size, if it is offered",
     },
 )
@@ -80,7 +83,7 @@ ALLOYDB = Host(
     "Google AlloyDB",
     {
         WAL_LEVEL: "in the instance's flags: alloydb.logical_decoding = on; the instance restarts",
-        REPLICATION: "as the user postgres: ALTER USER {user} WITH REPLICATION",
+        REPLICATION: "ALTER USER {user} WITH REPLICATION; -- as the user postgres",
     },
 )
 AZURE = Host(
@@ -89,7 +92,7 @@ AZURE = Host(
         WAL_LEVEL: "under Settings, Server parameters: wal_level = LOGICAL; save and restart",
         SLOTS: "under Settings, Server parameters: max_replication_slots = 10; save and restart",
         SENDERS: "under Settings, Server parameters: max_wal_senders = 10; save and restart",
-        REPLICATION: "as the server's administrator: ALTER ROLE {user} WITH REPLICATION",
+        REPLICATION: "ALTER ROLE {user} WITH REPLICATION; -- as the server's administrator",
         WALINSPECT: "under Settings, Server parameters: add pg_walinspect to azure.extensions, if "
         "it is offered; then CREATE EXTENSION pg_walinspect",
         KEEP: "under Settings, Server parameters: max_slot_wal_keep_size",

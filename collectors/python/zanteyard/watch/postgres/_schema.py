@@ -69,6 +69,7 @@ SELECT DISTINCT ON (i.indrelid) i.indrelid, x.relname,
  ORDER BY i.indrelid, is_bound, i.indnkeyatts, i.indexrelid
 """
 ENUM = "e"
+UNKNOWN_KEY = "(..); -- the columns that identify a row"
 
 
 @dataclass(frozen=True)
@@ -95,7 +96,7 @@ def tables_of(database: Database) -> list[Table]:
     unique = {oid: _key_by(*its) for oid, *its in database.run(UNIQUE)}
     found = (
         replace(
-            _table(row, columns.get(row[0], []), unique.get(row[0], "(..)")),
+            _table(row, columns.get(row[0], []), unique.get(row[0], UNKNOWN_KEY)),
             names=(row[1:3], row[7:9]),
         )
         for row in database.run(TABLES)
@@ -111,7 +112,7 @@ def asked_of(tables: Sequence[Table], asked: TablePatterns) -> tuple[list[Table]
 
 def _key_by(index: str, columns: str, is_bound: bool) -> str:
     """How a unique index's columns become the primary key."""
-    return f"({columns})" if is_bound else f"USING INDEX {quoted(index)}"
+    return f"({columns});" if is_bound else f"USING INDEX {quoted(index)};"
 
 
 def _table(row: Sequence[Any], key: Sequence[Sequence[Any]], candidate: str) -> Table:
@@ -124,7 +125,7 @@ def _table(row: Sequence[Any], key: Sequence[Sequence[Any]], candidate: str) -> 
     what = "partition" if is_partition else "table"
     if persistence == "u":
         told = "unlogged: its writes aren't in the server's log"
-        return Table(full, what, told, f"ALTER TABLE {full} SET LOGGED")
+        return Table(full, what, told, f"ALTER TABLE {full} SET LOGGED;")
     has_key, is_immediate, is_identity = index
     if not has_key:
         told = "no primary key: its rows can't be identified"
@@ -137,7 +138,7 @@ def _table(row: Sequence[Any], key: Sequence[Sequence[Any]], candidate: str) -> 
             "its replica identity isn't its primary key: the server's log lacks the keys of "
             "deleted rows"
         )
-        return Table(full, what, told, f"ALTER TABLE {full} REPLICA IDENTITY DEFAULT")
+        return Table(full, what, told, f"ALTER TABLE {full} REPLICA IDENTITY DEFAULT;")
     wrong = [*_not_compared(key)]
     return Table(full, what, "; ".join(wrong))
 

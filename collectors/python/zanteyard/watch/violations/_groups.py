@@ -95,6 +95,11 @@ class Groups:
         self._groups: dict[Shape, Group] = {}
         self._more = 0  # violations of shapes beyond MOST, or whose shape isn't known
 
+    @property
+    def may_be_known(self) -> bool:
+        """Whether there are any that are set aside."""
+        return bool(self._known)
+
     def enter(self, shape: Shape, at: float) -> bool:
         """Counts a violation that happened then. Returns whether it is the first of its shape that
         is counted, and so wants an explanation."""
