@@ -20,8 +20,8 @@ type Form struct {
 	Outer []Outer
 
 	// Drops says why the statement's result may lack a row that satisfies the condition, or "" if it can't: then whatever
-	// isn't in the result was passed over. What a result's rows are made of, if it has aggregates or groups, is for the
-	// caller to know.
+	// isn't in the result was passed over. What a result's rows are made of, if it has aggregates, groups or DISTINCT, is
+	// for the caller to know.
 	Drops string
 
 	catalog  *catalog.Catalog
@@ -156,8 +156,8 @@ func (f *Form) drops(kind string, body tree) string {
 	switch {
 	case body.has("limitCount"), body.has("limitOffset"):
 		return "LIMIT or OFFSET"
-	case body.has("distinctClause"):
-		return "DISTINCT"
+	case distinctOn(body):
+		return "DISTINCT ON"
 	case body.has("havingClause"):
 		return "HAVING"
 	}
@@ -174,4 +174,14 @@ func (f *Form) drops(kind string, body tree) string {
 		}
 	})
 	return reason
+}
+
+// distinctOn distinguishes DISTINCT ON, which returns one of several rows, from DISTINCT.
+func distinctOn(body tree) bool {
+	for _, item := range body.list("distinctClause") {
+		if kind, _ := open(item); kind != "" {
+			return true
+		}
+	}
+	return false
 }

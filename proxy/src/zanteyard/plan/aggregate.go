@@ -16,6 +16,9 @@ import (
 // aggregate early, so the list has three: it is returned only if there are few rows, it takes no key that is very long,
 // and no row after the statement has run for a time, so that the server never holds much more than it can copy in that
 // time. How many rows there were is counted, so that a list in which some are missing is known as such.
+//
+// An aggregate of no rows shows its table all the same: in place of the list there is one record that has nothing but the
+// type of the table's rows.
 
 const (
 	// MostListed is how many rows of a table an aggregate may be made of to be listed.
@@ -53,9 +56,14 @@ func (h *hiding) lists(it *item) {
 		condition += " AND pg_catalog.octet_length(pg_catalog.concat(" + strings.Join(long, ", ") +
 			")) OPERATOR(pg_catalog.<=) " + strconv.Itoa(longestListed)
 	}
+	list := "pg_catalog.string_agg(pg_catalog.record_send(ROW(" + strings.Join(row, ", ") + ")), '') FILTER (WHERE " +
+		condition + ")" + h.over
+	if h.one {
+		list = "COALESCE(" + list + ", pg_catalog.record_send(ROW((pg_catalog.array_agg(" + h.of(it, rowOf) +
+			") FILTER (WHERE false))[1])))"
+	}
 	h.value("CASE WHEN " + countOfRows + h.all + " OPERATOR(pg_catalog.<=) " + strconv.Itoa(MostListed) +
-		" THEN pg_catalog.string_agg(pg_catalog.record_send(ROW(" + strings.Join(row, ", ") + ")), '') FILTER (WHERE " +
-		condition + ")" + h.over + " END")
+		" THEN " + list + " END")
 }
 
 // Lists reports whether hidden columns list the rows that a row of the result was made of.
@@ -91,12 +99,35 @@ func (p *Plan) Complete(values [][]byte, isBinary bool) bool {
 		}
 		list, readable := raw(group[0], isBinary)
 		var listed uint64
-		for ; readable && len(list) > 0; listed++ {
-			_, _, list, readable = cutRecord(list, nil)
+		for readable && len(list) > 0 {
+			var fields [][]byte
+			if fields, _, list, readable = cutRecord(list, nil); len(fields) > 1 {
+				listed++
+			}
 		}
 		ok = ok && readable && listed == rows
 	}
 	return ok
+}
+
+// ShowsTables reports whether a row that was made of no rows shows all the same of which tables.
+func (p *Plan) ShowsTables(values [][]byte, isBinary bool) bool {
+	if !p.Counts || len(values) != p.Hidden() {
+		return false
+	}
+	at := 1
+	for i := range p.Sources {
+		list, ok := raw(values[at], isBinary)
+		if !p.Sources[i].Listed || !ok || len(list) == 0 {
+			return false
+		}
+		fields, last, _, ok := cutRecord(list, nil)
+		if !ok || len(fields) != 1 || last != p.Sources[i].RowType {
+			return false
+		}
+		at += p.Sources[i].Hidden()
+	}
+	return len(p.Sources) > 0
 }
 
 // appendList returns the rows of a list.
@@ -105,13 +136,15 @@ func (s *Source) appendList(to []record.Read, value []byte, isBinary bool) ([]re
 	fields, last := make([][]byte, 0, 3+len(s.Types)), uint32(0)
 	var failed error
 	for ok && len(list) > 0 {
-		if fields, last, list, ok = cutRecord(list, fields[:0]); !ok || len(fields) != 3+len(s.Types) {
+		fields, last, list, ok = cutRecord(list, fields[:0])
+		ofNothing := len(fields) == 1 // it shows the type alone
+		if !ok || !ofNothing && len(fields) != 3+len(s.Types) {
 			return to, fmt.Errorf("a list of rows of relation %d can't be read", s.Relation)
 		}
 		if last != s.RowType {
 			return to, ErrOtherRelation
 		}
-		if fields[0] == nil { // an outer join left it NULL
+		if ofNothing || fields[0] == nil { // an outer join left it NULL
 			continue
 		}
 		read, err := s.decode(fields, true)

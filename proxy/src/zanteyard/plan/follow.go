@@ -75,7 +75,7 @@ func (m *maker) follow(p *Plan, body node) (*follow, string) {
 		return nil, aSubqueryInFrom
 	case body.has("groupClause") && !p.Counts: // otherwise each group lists its rows
 		return nil, "GROUP BY"
-	case body.has("distinctClause"):
+	case body.has("distinctClause") && !p.Counts: // otherwise each of its rows lists those that are equal
 		return nil, "DISTINCT"
 	case body.has("havingClause"):
 		return nil, "HAVING"

@@ -22,6 +22,7 @@ type hiding struct {
 	values []string
 	proofs []string // queries that are refused if a column isn't there; they are put in front of the first value
 	names  []string // of the columns that are looked up, except for the system's
+	one    bool     // the statement has one row, even if it is made of none
 	// If rows that share columns are listed by a window: these, that window, and that of all rows.
 	by        []shared
 	over, all string

@@ -67,6 +67,7 @@ func (m *maker) selects(p *Plan, body node, start, end int) {
 	}
 	h := f.hiding()
 	h.window(by)
+	h.one = lists && !distinct && len(f.group) == 0 && m.catalog.WithConditions()
 	if p.Counts {
 		h.value(countOfRows + h.over)
 	}

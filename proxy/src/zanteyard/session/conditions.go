@@ -35,6 +35,7 @@ type asking struct {
 	from  time.Time // its snapshot is no older
 	rows  uint64
 	found []record.Key
+	shows bool   // an aggregate of no rows shows its table all the same
 	why   string // why it isn't followed
 	// writes: it wrote the rows that it got, which the log tells.
 	writes bool
@@ -113,7 +114,7 @@ func (s *Session) askedBy(p *plan.Plan, e *expectation, noted *record.Statement,
 	if p.NotFollowed == "" && !p.Follows() || a != nil && a.done || len(t.Asks) > mostConditions {
 		return
 	}
-	if changed && p.ByKey { // no other row can satisfy it
+	if p.ByKey && (changed || a != nil && a.why == "" && a.rows > 0 && !p.Lists()) { // no other row can satisfy it
 		return
 	}
 	why := p.NotFollowed
@@ -131,7 +132,7 @@ func (s *Session) askedBy(p *plan.Plan, e *expectation, noted *record.Statement,
 		why = a.why
 	case a.rows >= a.Most && !a.writes:
 		why = cutOff
-	case p.Lists() && len(a.found) == 0: // the rows that it lists show that it is made of its plan's table
+	case p.Lists() && len(a.found) == 0 && !a.shows: // otherwise rows that it lists show that it is made of its plan's table
 		why = ofNothing
 	case e.replaced:
 		why = maybeAnother

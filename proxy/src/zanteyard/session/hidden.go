@@ -32,6 +32,7 @@ func (s *Session) hidden(e *expectation, values [][]byte) {
 			n = 1
 		}
 		e.asking.got(reads, err != nil || isWhole && uint64(len(reads)) != n, isWhole)
+		e.asking.shows = lists && n == 0 && p.ShowsTables(values, isBinary)
 	}
 	reason := s.tx.unreported()
 	switch isOther := errors.Is(err, plan.ErrOtherRelation); {
