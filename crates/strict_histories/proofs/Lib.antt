@@ -1,0 +1,5 @@
+mod EndReads
+mod Lookups
+mod Orders
+mod Pending
+mod Stands
