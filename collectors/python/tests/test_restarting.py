@@ -254,13 +254,9 @@ class Shown(WithJournal):
         package = os.path.join(test_documents.TOP, "collectors/python")
         environment = {**os.environ, "COBRA_AUDIT": os.path.abspath(PROGRAM), "PYTHONPATH": package}
         shown = [*test_documents.sessions("docs/JOURNAL.md")]
-        self.assertEqual(len(shown), 3)
-        for command, printed in shown:
-            words = command.split()
-            if words[0] == "zanteyard":
-                words = ["-m", *words]
-            else:
-                words = [os.path.join(test_documents.TOP, words[1]), *words[2:]]
+        self.assertEqual(len(shown), 2)
+
+        def printed_by(*words):
             ended = subprocess.run(
                 [sys.executable, *words],
                 cwd=self.folder,
@@ -270,7 +266,14 @@ class Shown(WithJournal):
                 text=True,
                 timeout=600,
             )
-            self.assertEqual(ended.stdout.splitlines(), printed)
+            return ended.stdout.splitlines()
+
+        for command, printed in shown:
+            _, example, *words = command.split()
+            self.assertEqual(printed_by(os.path.join(test_documents.TOP, example), *words), printed)
+        told = printed_by("-m", "zanteyard", "check", "bank.journal")
+        self.assertEqual(told[0], "bank: 4 transactions from 2 sessions were accepted")
+        self.assertIn("    0.1 read rent from 0.0, wrote rent", told)
 
 
 class Resumed(WithJournal):
