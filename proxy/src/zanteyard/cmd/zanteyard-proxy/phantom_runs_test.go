@@ -255,8 +255,8 @@ func (one *phantomHistory) run(level string) {
 // judge compares what was offered of a history with the truth.
 func (b *phantomRun) judge(one *phantomHistory, first int) {
 	byRows, whole, unsure := phantomTruth(one.txns, one.chains)
-	mine := func(id int) bool { return id >= first && one.group.sessions[b.h.g.names[id][0]] }
-	cycle, told := b.h.g.part(mine).violation(false)
+	mine := func(id int) bool { return one.group.sessions[b.h.g.names[id][0]] }
+	cycle, told := b.h.g.part(first, mine).violation(false)
 	var wrong []string
 	for _, text := range told {
 		if !strings.Contains(text, "overwrite") { // at read committed a transaction may read a version, and overwrite a later one
@@ -277,18 +277,20 @@ func (b *phantomRun) judge(one *phantomHistory, first int) {
 	if len(wrong) > 0 || cycle != "" && (b.level == "SERIALIZABLE" || whole && !unsure) {
 		b.t.Errorf("history %d: %v; a violation is offered that nobody made: %s\n%s", one.seed, wrong, cycle,
 			shownHistory(one.txns, one.chains))
-		b.describe(mine)
+		b.describe(first, mine)
 	}
 	if *phantomsMissed && !whole && cycle == "" {
 		b.t.Logf("history %d is violated, and that isn't found\n%s", one.seed, shownHistory(one.txns, one.chains))
-		b.describe(mine)
+		b.describe(first, mine)
 	}
 }
 
-// part is the graph of the transactions that are kept. What they have read of others came before and is over.
-func (g *graph) part(keep func(id int) bool) *graph {
+// part is the graph of those transactions from the first one on that are kept. What they have read of others came before
+// and is over.
+func (g *graph) part(first int, keep func(id int) bool) *graph {
 	its := newGraph()
-	for id, name := range g.names {
+	for id := first; id < len(g.names); id++ {
+		name := g.names[id]
 		if !keep(id) {
 			continue
 		}
@@ -297,7 +299,7 @@ func (g *graph) part(keep func(id int) bool) *graph {
 		its.names, its.after = append(its.names, name), append(its.after, nil)
 		var reads [][3]int
 		for _, read := range g.reads[id] {
-			if earlier, is := g.ids[[2]int{read[1], read[2]}]; is && !keep(earlier) {
+			if earlier, is := g.ids[[2]int{read[1], read[2]}]; is && (earlier < first || !keep(earlier)) {
 				read = [3]int{read[0], -2, earlier}
 			}
 			reads = append(reads, read)
@@ -312,9 +314,9 @@ func (g *graph) part(keep func(id int) bool) *graph {
 }
 
 // describe shows what the keys of a history's transactions stand for.
-func (b *phantomRun) describe(mine func(int) bool) {
+func (b *phantomRun) describe(first int, mine func(int) bool) {
 	b.t.Helper()
-	for id := range b.h.g.names {
+	for id := first; id < len(b.h.g.names); id++ {
 		if mine(id) {
 			b.describeOne(b.h.g.names[id])
 		}

@@ -27,7 +27,8 @@ const (
 // TestPhantoms: random histories with conditions, through the proxy. Nothing is violated that the truth doesn't have
 // violated, and nothing at serializable; of what the truth has violated, most is found.
 func TestPhantoms(t *testing.T) {
-	c := start(t, "max_wal_senders=20", "max_replication_slots=20", "max_connections=150")
+	c := start(t, "max_wal_senders=20", "max_replication_slots=20", "max_connections=150",
+		"deadlock_timeout=10ms") // a second by default, for which most rounds would wait
 	direct, err := pgconn.Connect(context.Background(), sourceOf(c, "postgres"))
 	if err != nil {
 		t.Fatal(err)
@@ -63,7 +64,7 @@ func TestPhantoms(t *testing.T) {
 }
 
 const (
-	phantomRoom   = 200 // histories for which an audit without cuts has room
+	phantomRoom   = 500 // histories for which an audit without cuts has room
 	phantomGroups = 10  // histories that run at a time, each on a table and connections of its own
 )
 
