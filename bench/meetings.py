@@ -49,16 +49,14 @@ AFTER = "it ran during a meeting, or while sessions changed hands"
 class Audit:
     """A proxy, and a parent that lets it forget everything."""
 
-    def __init__(self, asked: Any, program: str, server: Server, log: str) -> None:
+    def __init__(self, options: list[str], program: str, server: Server, log: str) -> None:
         self.port = free_port()
-        call = [program, "--trust-clients", "--listen", f"127.0.0.1:{self.port}"]
-        call += ["--between", asked.between]
-        call += ["--hold", asked.hold] if asked.hold else []
-        call += ["--server"]
+        call = [program, "--trust-clients", "--listen", f"127.0.0.1:{self.port}", *options, "--server"]
         call.append(f"host=127.0.0.1 port={server.port} user=postgres dbname=postgres")
         self._log = open(log, "wb")
         pipe = subprocess.PIPE
         self._proxy = subprocess.Popen(call, stdin=pipe, stdout=pipe, stderr=self._log)
+        self.pid = self._proxy.pid
         self.meetings: list[tuple[float, float]] = []  # seconds since 1970, and seconds
         self.coverage: dict[str, Any] = {}
         self._marks: list[int] = []
@@ -169,7 +167,8 @@ def split(folder: str, meetings: list[tuple[float, float]]) -> tuple[list[float]
 
 
 def run(asked: Any, folder: str, program: str, server: Server, work: str, name: str) -> str:
-    audit = Audit(asked, program, server, os.path.join(folder, "proxy.log"))
+    options = ["--between", asked.between, *(["--hold", asked.hold] if asked.hold else [])]
+    audit = Audit(options, program, server, os.path.join(folder, "proxy.log"))
     with beside(name, server, audit):
         before = [int(word) for word in "|".join(psql(server.port, STATE)).split("|")]
         call = [postgres_program("pgbench") or "pgbench", "-n", "-M", "prepared", "-l"]

@@ -120,8 +120,9 @@ func TestIndexFindsWhatCouldHold(t *testing.T) {
 		{[]*condition.Row{row("1", "1", "x")}, "a > 6"},
 		{[]*condition.Row{row("1", "2", "y")}, "a = 2 OR b = 'y', a > 6"},
 		{[]*condition.Row{row("1", "2", "z"), row("1", "1", "w")}, "a = 2 OR b = 'y', a > 6, b = 'w', b = 'z'"},
-		{[]*condition.Row{row("1", "?", "v")}, "a = 2 OR b = 'y', a > 6"},
-		{[]*condition.Row{row("1", "1", "?")}, "a = 2 OR b = 'y', a > 6, b = 'w', b = 'z'"},
+		{[]*condition.Row{row("1", "?", "v")}, "a > 6"}, // what isn't known makes none hold that asks for it
+		{[]*condition.Row{row("1", "1", "?")}, "a > 6"},
+		{[]*condition.Row{row("1", "?", "w"), row("1", "2", "?")}, "a = 2 OR b = 'y', a > 6, b = 'w'"},
 	} {
 		if got := found(index, table.OID, one.rows...); got != one.want {
 			t.Errorf("%s in place of %s", got, one.want)

@@ -202,8 +202,9 @@ func without(from []*entry, one *entry) []*entry {
 }
 
 // Candidates calls take with each condition on a table that may hold for one of the rows: those of a write are the old
-// row, if it is known, and the new one. Every condition that isn't No or Null for a row is among them, each once. take
-// must not change the index.
+// row, if it is known, and the new one. Every condition that is Yes for a row is among them, each once. One that asks a
+// column for a value isn't if that column's isn't known: the log has just the key of most old rows. take must not change
+// the index.
 func (x *Index) Candidates(table record.Relation, take func(*Condition), rows ...*Row) {
 	its := x.tables[table]
 	if its == nil {
@@ -220,7 +221,7 @@ func (x *Index) Candidates(table record.Relation, take func(*Condition), rows ..
 	}
 }
 
-// find finds the conditions that ask the column for the row's value; all of them if that isn't known.
+// find finds the conditions that ask the column for the row's value; none of them holds if that isn't known.
 func (d *drawer) find(row *Row, search uint64, take func(*Condition)) {
 	value := row.value(d.column)
 	switch value.known {
@@ -228,11 +229,6 @@ func (d *drawer) find(row *Row, search uint64, take func(*Condition)) {
 		each(d.of[value.datum], search, take)
 	case isNull:
 		each(d.nulls, search, take)
-	default:
-		each(d.nulls, search, take)
-		for _, those := range d.of {
-			each(those, search, take)
-		}
 	}
 }
 
