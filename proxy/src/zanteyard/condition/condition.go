@@ -75,16 +75,16 @@ type Row struct {
 
 // reading is how a value was read the last time.
 type reading struct {
-	by    family
-	known knowledge
-	datum datum
+	number int16
+	by     family
+	known  knowledge
+	datum  datum
 }
 
 type knowledge uint8
 
 const (
-	notRead knowledge = iota
-	notKnown
+	notKnown knowledge = iota
 	isNull
 	isKnown
 )
@@ -108,14 +108,16 @@ func (r *Row) value(c *column) *reading {
 	if int(c.number) > len(r.values) {
 		return &beyond
 	}
-	if r.read == nil {
-		r.read = make([]reading, len(r.values))
+	for i := range r.read { // few columns are asked for
+		if its := &r.read[i]; its.number == c.number {
+			if its.by != c.by {
+				*its = c.reading(&r.values[c.number-1])
+			}
+			return its
+		}
 	}
-	cell := &r.read[c.number-1]
-	if cell.known == notRead || cell.by != c.by {
-		*cell = c.reading(&r.values[c.number-1])
-	}
-	return cell
+	r.read = append(r.read, c.reading(&r.values[c.number-1]))
+	return &r.read[len(r.read)-1]
 }
 
 // Condition is a form with its constants. It never changes, and is safe for use by many goroutines.

@@ -7,11 +7,32 @@ import "sort"
 // by several goroutines.
 type Rows struct{ columns map[columnBy]*filed }
 
-// filed are the places by the values of one column.
+// filed are the places by the values of one column: for each value a chain of them, the last one first.
 type filed struct {
 	upTo  int // places before this one are in it
-	of    map[datum][]int
-	nulls []int
+	of    map[datum]int32
+	null  int32
+	links []link
+}
+
+// link is one of a chain of places: the place, and where the next one of the chain is.
+type link struct{ place, next int32 }
+
+// noLink is the end of a chain.
+const noLink = -1
+
+// Clear makes it have none, and keeps its memory.
+func (x *Rows) Clear() {
+	for key, its := range x.columns {
+		if its.upTo == 0 { // nobody has asked for it since it was cleared
+			delete(x.columns, key)
+			continue
+		}
+		for value := range its.of {
+			delete(its.of, value)
+		}
+		its.upTo, its.null, its.links = 0, noLink, its.links[:0]
+	}
 }
 
 // Find calls take, in order, with each of the first n places at which the condition may be true, of one of the rows that
@@ -24,15 +45,18 @@ func (x *Rows) Find(c *Condition, n int, at func(place int) [3]*Row, take func(p
 	var places []int
 	for _, one := range its {
 		by := x.by(one.column, n, at)
-		if one.null {
-			places = append(places, by.nulls...)
-		} else {
-			places = append(places, by.of[one.value]...)
+		last := by.null
+		if !one.null {
+			var is bool
+			if last, is = by.of[one.value]; !is {
+				continue
+			}
+		}
+		for ; last != noLink; last = by.links[last].next {
+			places = append(places, int(by.links[last].place))
 		}
 	}
-	if len(its) > 1 {
-		sort.Ints(places)
-	}
+	sort.Ints(places)
 	for i, place := range places {
 		if i == 0 || place != places[i-1] {
 			take(place)
@@ -46,7 +70,7 @@ func (x *Rows) by(column *column, n int, at func(place int) [3]*Row) *filed {
 	key := columnBy{column.number, column.by}
 	its := x.columns[key]
 	if its == nil {
-		its = &filed{of: map[datum][]int{}}
+		its = &filed{of: map[datum]int32{}, null: noLink}
 		if x.columns == nil {
 			x.columns = map[columnBy]*filed{}
 		}
@@ -66,15 +90,23 @@ func (x *Rows) by(column *column, n int, at func(place int) [3]*Row) *filed {
 func (f *filed) file(value *reading) {
 	switch value.known {
 	case isNull:
-		f.nulls = with(f.nulls, f.upTo)
+		f.null = f.with(f.null)
 	case isKnown:
-		f.of[value.datum] = with(f.of[value.datum], f.upTo)
+		last, is := f.of[value.datum]
+		if !is {
+			last = noLink
+		}
+		if its := f.with(last); its != last {
+			f.of[value.datum] = its
+		}
 	}
 }
 
-func with(places []int, place int) []int {
-	if n := len(places); n > 0 && places[n-1] == place {
-		return places
+// with adds the last place to a chain, and returns its beginning.
+func (f *filed) with(last int32) int32 {
+	if last != noLink && f.links[last].place == int32(f.upTo) {
+		return last
 	}
-	return append(places, place)
+	f.links = append(f.links, link{int32(f.upTo), last})
+	return int32(len(f.links) - 1)
 }

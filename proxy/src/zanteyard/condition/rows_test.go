@@ -6,11 +6,19 @@ import (
 	"zanteyard/condition"
 )
 
-// file finds rows by conditions, as search finds conditions by rows: half of them before the others are there.
+// file finds rows by conditions, as search finds conditions by rows: half of them before the others are there, and then
+// others in their places.
 func (o *oracle) file() {
 	var rows condition.Rows
+	o.fileIn(&rows, 0)
+	rows.Clear()
+	o.fileIn(&rows, 1)
+	rows.Clear()
+}
+
+func (o *oracle) fileIn(rows *condition.Rows, first int) {
 	at := func(place int) (its [3]*condition.Row) {
-		its[0], its[2] = o.rows[place].testDecoding, o.rows[(place+1)%len(o.rows)].testDecoding
+		its[0], its[2] = o.rows[(place+first)%len(o.rows)].testDecoding, o.rows[(place+first+1)%len(o.rows)].testDecoding
 		return its
 	}
 	for _, n := range []int{len(o.rows) / 2, len(o.rows)} {

@@ -67,7 +67,7 @@ type column struct {
 }
 
 func (c *column) reading(value *Value) reading {
-	cell := reading{by: c.by, known: notKnown}
+	cell := reading{number: c.number, by: c.by, known: notKnown}
 	switch value.State {
 	case IsNull:
 		cell.known = isNull

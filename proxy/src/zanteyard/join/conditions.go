@@ -25,7 +25,7 @@ type question struct {
 	its       Condition
 	relation  record.Relation // whose primary key identifies the rows
 	registers []*row
-	on        map[*row]*row // the registers by row
+	on        map[*row]*row // the registers by row; nil as long as there is none
 	// next are registers that no row has yet: the next rows of which a version changes whether the condition holds get
 	// them. So who asks now is a reader of theirs: it saw the row before that version, which comes later in the log.
 	next  []*row
@@ -130,7 +130,7 @@ func (c *core) ask(one *record.Ask, ended time.Time) *question {
 	}
 	q := c.questions.by[its.Key()]
 	if q == nil {
-		q = &question{its: its, relation: c.tables.Root(its.Table()), on: map[*row]*row{}}
+		q = &question{its: its, relation: c.tables.Root(its.Table())}
 		c.questions.by[its.Key()] = q
 		q.place = c.questions.order.PushBack(q)
 		c.questions.bytes += q.size()
@@ -351,9 +351,12 @@ func (q *question) register(on *row) *row {
 	if len(q.next) > 0 {
 		at, q.next = q.next[0], q.next[1:]
 	} else {
-		at = &row{as: &register{of: q}}
+		at = q.newRegister()
 	}
 	at.as.on, at.born = on, true
+	if q.on == nil {
+		q.on = map[*row]*row{}
+	}
 	q.on[on] = at
 	q.registers = append(q.registers, at)
 	return at
@@ -367,10 +370,23 @@ func (q *question) await(c *core, began time.Time) []*row {
 	if len(q.next) == 0 {
 		q.since = began
 	}
+	if q.next == nil {
+		q.next = make([]*row, 0, ahead)
+	}
 	for len(q.next) < ahead {
-		q.next = append(q.next, &row{as: &register{of: q}})
+		q.next = append(q.next, q.newRegister())
 	}
 	return q.next
+}
+
+// newRegister makes a register that no row has.
+func (q *question) newRegister() *row {
+	its := &struct {
+		row row
+		as  register
+	}{as: register{of: q}}
+	its.row.as = &its.as
+	return &its.row
 }
 
 // tells reports whether anything is known of the row from which a condition's truth may be told. Of tables that nobody
@@ -387,7 +403,8 @@ func (c *core) changes(its []fresh) {
 			c.changeAll(table, it)
 		}
 		if len(table.fresh) >= mostFresh {
-			table.fresh, table.filed = append(table.fresh[:0], table.fresh[mostFresh/2:]...), condition.Rows{}
+			table.fresh = append(table.fresh[:0], table.fresh[mostFresh/2:]...)
+			table.filed.Clear()
 		}
 		table.fresh = append(table.fresh, it)
 	}
@@ -462,10 +479,11 @@ func (t *tableAsks) forgetDone() {
 	for i := len(kept); i < len(t.fresh); i++ {
 		t.fresh[i] = fresh{}
 	}
-	if len(kept) < len(t.fresh) {
-		t.filed = condition.Rows{}
-	}
-	if t.fresh = kept; len(kept) == 0 {
-		t.fresh = nil
+	switch {
+	case len(t.fresh) == 0: // nothing was written since it was asked for the last time
+		t.fresh, t.filed = nil, condition.Rows{}
+	case len(kept) < len(t.fresh):
+		t.fresh = kept
+		t.filed.Clear()
 	}
 }

@@ -2,7 +2,6 @@ package join
 
 import (
 	"context"
-	"fmt"
 	"strconv"
 	"syscall"
 	"testing"
@@ -22,7 +21,8 @@ func (askedTables) Same(record.Relation, record.Identity) bool        { return t
 func (askedTables) SameColumns(record.Relation, record.Identity) bool { return true }
 
 // BenchmarkConditions is BenchmarkJoiner, where two transactions in five ask by a condition of their own, and the log has
-// the values of what is written: what the session and the joiner do for it is in its processor time.
+// the values of what is written, and the key of what was there before. There is a moment a second. What is done for it is
+// in the processor time: what the session and the slot do alone, and with the joiner.
 func BenchmarkConditions(b *testing.B) {
 	c, err := cluster.Start(nil, nil)
 	if err != nil {
@@ -42,19 +42,22 @@ func BenchmarkConditions(b *testing.B) {
 		b.Fatal(err)
 	}
 	table, _ := known.Find("public", "visits")
-	for _, followed := range []bool{false, true} {
-		b.Run(fmt.Sprint("followed ", followed), func(b *testing.B) {
+	for _, way := range []string{"without", "reported", "followed"} {
+		b.Run(way, func(b *testing.B) {
 			cache := plan.NewCache(known)
 			l := newLoad(100_000)
 			l.core.tables = askedTables{}
-			if followed {
+			if way != "without" {
 				l.asks = func(it *record.Transaction, commit *record.Commit) {
 					for i := range commit.Writes {
 						one := &commit.Writes[i]
 						one.Relation = record.Relation(table.OID)
-						one.New = condition.NewRow([]condition.Value{{Text: string(one.Key), State: condition.Present},
+						now := condition.NewRow([]condition.Value{{Text: string(one.Key), State: condition.Present},
 							{Text: strconv.Itoa(l.r.Intn(100_000)), State: condition.Present}, {Text: "1", State: condition.Present}})
-						one.Bytes = 200
+						was := condition.NewRow([]condition.Value{{Text: string(one.Key), State: condition.Present}})
+						if way == "followed" {
+							one.New, one.Old, one.Bytes = now, was, 200
+						}
 					}
 					for i := range it.Reads {
 						it.Reads[i].Relation = record.Relation(table.OID)
@@ -68,7 +71,9 @@ func BenchmarkConditions(b *testing.B) {
 					if err != nil {
 						b.Fatal(err)
 					}
-					it.Asks = []record.Ask{{Condition: q.By, Identity: q.Identity, Columns: q.Columns, From: it.Began}}
+					if way == "followed" {
+						it.Asks = []record.Ask{{Condition: q.By, Identity: q.Identity, Columns: q.Columns, From: it.Began}}
+					}
 				}
 			}
 			b.ReportAllocs()
@@ -76,12 +81,18 @@ func BenchmarkConditions(b *testing.B) {
 			before := processorTime()
 			for i := 0; i < b.N; i++ {
 				l.transaction()
+				if i%10_000 == 9_999 { // the load's second
+					l.now = l.now.Add(time.Microsecond)
+					l.core.quiet(l.now)
+					l.now = l.now.Add(time.Microsecond)
+				}
 			}
 			b.ReportMetric(float64(processorTime()-before)/float64(b.N)/1000, "cpu-us/op")
 			b.StopTimer()
 			q := l.core.questions
 			b.ReportMetric(float64(q.order.Len()), "conditions")
 			b.ReportMetric(float64(l.core.counts.passed), "passed")
+			b.ReportMetric(float64(l.core.counts.offered)/float64(b.N), "offered")
 		})
 	}
 }

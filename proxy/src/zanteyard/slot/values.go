@@ -1,6 +1,8 @@
 package slot
 
 import (
+	"strings"
+
 	"zanteyard/condition"
 	"zanteyard/record"
 )
@@ -44,18 +46,27 @@ func rowOf(of *Table, its []column) (*condition.Row, int) {
 	if len(its) == 0 {
 		return nil, 0
 	}
-	var all []condition.Value
-	bytes := 64
-	for _, one := range its {
-		at := of.columns[string(one.name)]
-		if at == nil || len(one.value) > mostValue {
+	var text strings.Builder // of all values
+	most, length := 0, 0
+	for i := range its {
+		at := of.columns[string(its[i].name)]
+		if its[i].at = at; at == nil || len(its[i].value) > mostValue {
 			continue
 		}
-		for len(all) < int(at.Number) {
-			all = append(all, condition.Value{})
+		if length += len(its[i].value); int(at.Number) > most {
+			most = int(at.Number)
 		}
-		all[at.Number-1] = condition.ValueOf(at, string(one.value), one.null, true)
-		bytes += 48 + len(one.value)
+	}
+	text.Grow(length)
+	all := make([]condition.Value, most)
+	bytes := 192 + 24*most + length // with two of them read
+	for _, one := range its {
+		if one.at == nil || len(one.value) > mostValue {
+			continue
+		}
+		from := text.Len()
+		text.Write(one.value)
+		all[one.at.Number-1] = condition.ValueOf(one.at, text.String()[from:], one.null, true)
 	}
 	return condition.NewRow(all), bytes
 }

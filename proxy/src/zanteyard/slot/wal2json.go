@@ -4,6 +4,7 @@ import (
 	"fmt"
 	"strconv"
 
+	"zanteyard/catalog"
 	"zanteyard/record"
 )
 
@@ -39,6 +40,7 @@ type message struct {
 type column struct {
 	name, value []byte
 	null        bool
+	at          *catalog.Column // set where the values of a row are made
 }
 
 // decode handles one message. It returns a commit if the message is one.
