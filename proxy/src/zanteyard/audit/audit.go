@@ -242,7 +242,10 @@ func (a *Audit) begin(ctx context.Context) (*running, error) {
 		a.config.Begins(control.Sees)
 	}
 	its := &running{audit: a, control: control, tables: tables}
-	if its.reader, err = slot.Open(begin, a.config.Slot, tables); err != nil {
+	opens := a.tellWaiting(begin, control)
+	its.reader, err = slot.Open(begin, a.config.Slot, tables)
+	opens()
+	if err != nil {
 		if errors.Is(err, slot.ErrBlocked) {
 			err = fmt.Errorf("%w: %s", err, control.Open(ctx))
 		}

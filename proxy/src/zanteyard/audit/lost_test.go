@@ -96,6 +96,24 @@ func TestNoAudit(t *testing.T) {
 	await(t, events, "ended")
 }
 
+// TestWaitsForWhatIsOpen: a slot begins only after transactions that are open. The parent is told which ones these are.
+func TestWaitsForWhatIsOpen(t *testing.T) {
+	before := patience
+	patience = 50 * time.Millisecond
+	defer func() { patience = before }()
+	s := startServer(t)
+	conn := s.connect(t)
+	must(t, conn, someTables)
+	must(t, conn, "BEGIN; INSERT INTO t VALUES (1)")
+	_, events, _, _ := start(t, s, slot.Options{})
+	told := await(t, events, "warning")
+	if text := told["text"].(string); !strings.Contains(text, "what is open") || !strings.Contains(text, "the session with pid ") {
+		t.Errorf("the parent is told %q", text)
+	}
+	must(t, conn, "COMMIT")
+	await(t, events, "started")
+}
+
 // Rounds, a new audit and the end, on the parent's commands; tables without a key are counted.
 func TestParent(t *testing.T) {
 	s := startServer(t)
