@@ -118,8 +118,13 @@ class WhatIsLost(unittest.TestCase):
     def test_what_else_was_run(self):
         sets = "UPDATE stock SET n = 4"
         self.assertEqual(self.of([sets], ["INSERT INTO log VALUES (1)", sets]), (LOST, ("n",)))
-        for more in (sets, "UPDATE stock SET a = 1", "EXECUTE sell(7)", "CALL sell(7)", "DO ''"):
+        for more in ("UPDATE stock SET a = 1", "UPDATE stock SET n = n - 1", "UPDATE stock SET n = 4, a = 1",
+                     "DELETE FROM stock", "EXECUTE sell(7)", "CALL sell(7)", "DO ''"):
             self.assertIsNone(self.of([sets], [sets, more]))
+        other = "UPDATE stock SET n = $1 WHERE id = 8"  # whichever of the two wrote the row
+        self.assertEqual(self.of([sets, other], [other, sets]), (LOST, ("n",)))
+        takes = ["UPDATE stock SET n = n - 1 WHERE id = 7", "UPDATE stock SET n = n + 1 WHERE id = 8"]
+        self.assertEqual(self.of(takes, takes), (BUILT_ON, ("n",)))
         self.assertIsNone(self.of([sets], [sets], statements_dropped=1))
         read = Described(OTHER, statements=(Statement("SELECT n", reads=((5, (1, 0)),)), Statement(sets)))
         self.assertIsNone(fate_of(Described(ONE, statements=(Statement(sets),)), read, "public.stock", 5))

@@ -6,7 +6,7 @@ prepared statement may have done.
 """
 
 import re
-from collections.abc import Mapping, Sequence
+from collections.abc import Iterator, Mapping, Sequence
 from typing import NamedTuple
 
 from ...core._records import AuditId
@@ -58,11 +58,12 @@ def fate_of(
 
 
 def _set_by(its: Described, table: str) -> Mapping[str, Sequence[str]] | None:
-    """The columns that the transaction's only statement that may have written this table has set,
-    each with the tokens of its value."""
+    """The columns that the transaction's statement that may have written this table has set, each
+    with the tokens of its value. There may be several such statements, if it makes no difference
+    which of them wrote the row."""
     if its.statements_dropped:
         return None
-    found = []
+    found: list[Mapping[str, Sequence[str]] | None] = []
     for one in its.statements:
         tokens = TOKEN.findall(without_constants(one.plain))
         words = [_plain(token) for token in tokens]
@@ -71,8 +72,15 @@ def _set_by(its: Described, table: str) -> Mapping[str, Sequence[str]] | None:
         if words[0] in HIDES or ";" in words[:-1]:
             return None
         if words[0] not in HARMLESS and table in words:
-            found.append(tokens)
-    return _assigned(found[0], table) if len(found) == 1 else None
+            found.append(_assigned(tokens, table))
+    alike = {None if one is None else frozenset(_ways(one)) for one in found}
+    return found[0] if len(alike) == 1 else None
+
+
+def _ways(its: Mapping[str, Sequence[str]]) -> Iterator[tuple[str, bool, bool]]:
+    """What counts of the columns that an UPDATE has set."""
+    for column, value in its.items():
+        yield column, _is_constant(value), _builds_on(column, value)
 
 
 def _plain(token: str) -> str:
