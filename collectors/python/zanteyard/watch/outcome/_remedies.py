@@ -69,7 +69,7 @@ REMEDIES: Sequence[tuple[str, str]] = (
     ("the hidden columns might change the order", "add an ORDER BY of the whole key"),
     ("two tables with the same name", "give each its own alias"),
     ("tables of an UPDATE or DELETE", "select their rows first"),
-    ("not tried on its connection yet", "it was a first run"),
+    ("not tried on its connection yet", "it was a first run, or trials took longer than --hold"),
     ("a new statement, where statements", "don't make up names in statements: use parameters"),
     ("what names refer to wasn't known yet", "it was a first run"),
     ("what names refer to wasn't known, just after SET",
