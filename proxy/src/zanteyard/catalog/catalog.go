@@ -67,6 +67,9 @@ type system struct {
 // Partitioned says that rows are in partitions: RETURNING can't return the xmin of what INSERT or UPDATE wrote.
 func (t *Table) Partitioned() bool { return t.Kind == 'p' }
 
+// Alone says that to read the table reads no other one.
+func (t *Table) Alone() bool { return t.Kind == 'r' && t.children == 0 }
+
 // Column finds a column by its name.
 func (t *Table) Column(name string) (Column, bool) {
 	for _, c := range t.Columns {

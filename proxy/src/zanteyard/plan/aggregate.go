@@ -3,8 +3,8 @@ package plan
 import (
 	"encoding/binary"
 	"fmt"
+	"math"
 	"strconv"
-	"strings"
 	"time"
 
 	"zanteyard/keys"
@@ -36,28 +36,13 @@ const countOfRows = "pg_catalog.count(*)"
 
 // lists adds a list of the table's rows, with their type.
 func (h *hiding) lists(it *item) {
-	var names []string
-	for _, column := range it.table.Key {
-		names = append(names, quote(column.Name))
-	}
-	h.isSure(it, append(h.shares(it), names...))
-	row, long := []string{h.of(it, "xmin"), h.of(it, "tableoid")}, []string(nil)
-	for i, column := range it.table.Key {
-		text := keys.Expression(column.Type, h.of(it, names[i]), it.converts)
-		row = append(row, text)
-		if keys.IsLong(column.Type) {
-			long = append(long, text)
-		}
-	}
-	row = append(row, h.of(it, rowOf))
+	row, long := h.record(it)
 	condition := "pg_catalog.clock_timestamp() OPERATOR(pg_catalog.<) (pg_catalog.statement_timestamp() " +
 		"OPERATOR(pg_catalog.+) '" + strconv.Itoa(int(listedFor.Seconds())) + "s'::pg_catalog.interval)"
-	if long != nil {
-		condition += " AND pg_catalog.octet_length(pg_catalog.concat(" + strings.Join(long, ", ") +
-			")) OPERATOR(pg_catalog.<=) " + strconv.Itoa(longestListed)
+	if long != "" {
+		condition += " AND " + long
 	}
-	list := "pg_catalog.string_agg(pg_catalog.record_send(ROW(" + strings.Join(row, ", ") + ")), '') FILTER (WHERE " +
-		condition + ")" + h.over
+	list := "pg_catalog.string_agg(" + row + ", '') FILTER (WHERE " + condition + ")" + h.over
 	if h.one {
 		list = "COALESCE(" + list + ", pg_catalog.record_send(ROW((pg_catalog.array_agg(" + h.of(it, rowOf) +
 			") FILTER (WHERE false))[1])))"
@@ -67,10 +52,14 @@ func (h *hiding) lists(it *item) {
 }
 
 // Lists reports whether hidden columns list the rows that a row of the result was made of.
-func (p *Plan) Lists() bool { return p.Counts }
+func (p *Plan) Lists() bool { return p.Counts || p.Copied }
 
 // Aggregated returns how many rows a row of the result was made of, if the plan counts them.
 func (p *Plan) Aggregated(values [][]byte, isBinary bool) (uint64, bool) {
+	if p.Copied && len(values) == 1 {
+		rows, _, ok := p.copiedIn(values[0], isBinary)
+		return rows, ok
+	}
 	if !p.Counts || len(values) != p.Hidden() || values[0] == nil {
 		return 0, false
 	}
@@ -86,6 +75,13 @@ func (p *Plan) Aggregated(values [][]byte, isBinary bool) (uint64, bool) {
 
 // Complete reports whether the lists of a row have all rows that it was made of.
 func (p *Plan) Complete(values [][]byte, isBinary bool) bool {
+	if p.Copied {
+		rows, lists, ok := p.copiedIn(values[0], isBinary)
+		for _, list := range lists {
+			ok = ok && records(list) == rows
+		}
+		return ok
+	}
 	if !p.Counts {
 		return true
 	}
@@ -98,14 +94,7 @@ func (p *Plan) Complete(values [][]byte, isBinary bool) bool {
 			continue
 		}
 		list, readable := raw(group[0], isBinary)
-		var listed uint64
-		for readable && len(list) > 0 {
-			var fields [][]byte
-			if fields, _, list, readable = cutRecord(list, nil); len(fields) > 1 {
-				listed++
-			}
-		}
-		ok = ok && readable && listed == rows
+		ok = ok && readable && records(list) == rows
 	}
 	return ok
 }
@@ -130,9 +119,23 @@ func (p *Plan) ShowsTables(values [][]byte, isBinary bool) bool {
 	return len(p.Sources) > 0
 }
 
+// records counts the records of rows in a list.
+func records(list []byte) (count uint64) {
+	for readable := true; len(list) > 0; {
+		var fields [][]byte
+		if fields, _, list, readable = cutRecord(list, nil); !readable {
+			return math.MaxUint64
+		}
+		if len(fields) > 1 {
+			count++
+		}
+	}
+	return count
+}
+
 // appendList returns the rows of a list.
-func (s *Source) appendList(to []record.Read, value []byte, isBinary bool) ([]record.Read, error) {
-	list, ok := raw(value, isBinary)
+func (s *Source) appendList(to []record.Read, list []byte) ([]record.Read, error) {
+	ok := true
 	fields, last := make([][]byte, 0, 3+len(s.Types)), uint32(0)
 	var failed error
 	for ok && len(list) > 0 {

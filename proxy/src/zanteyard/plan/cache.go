@@ -214,12 +214,15 @@ func (c *Cache) locate(state *cached, p *Plan, text string, list []token) (*Plan
 			break
 		}
 	}
+	if p.Copied && p.insertions[0].in(list, 0).copied.long() {
+		p = p.misplaced
+	}
 	tokens := Tokens{at: nowhere}
 	for i, one := range p.insertions {
-		if at := one.in(list); i == 0 {
-			tokens.at = at
+		if its := one.in(list, 0); i == 0 {
+			tokens.at, tokens.copied = its.at, its.copied
 		} else {
-			tokens.further = append(tokens.further, at)
+			tokens.further = append(tokens.further, its.at)
 		}
 	}
 	for i, part := range p.asked {

@@ -82,6 +82,7 @@ func Cost(answer []byte) (float64, bool) {
 const (
 	lookingUp = 400 // a hundred pages
 	listing   = 50  // 2,500 rows, as many as a small table may have that was never analyzed
+	copying   = 100 // what a statement costs whose rows are asked for once more
 )
 
 // Compared reports whether what a statement costs with the hidden columns is compared with what it costs without them.
@@ -89,7 +90,7 @@ func (p *Plan) Compared() bool { return p.Widens || p.ComparedByForm() }
 
 // ComparedByForm reports whether a statement isn't changed before its plans, with the hidden columns and without them, were
 // seen to have the same form.
-func (p *Plan) ComparedByForm() bool { return p.Looks || p.Counts }
+func (p *Plan) ComparedByForm() bool { return p.Looks || p.Counts || p.Copied }
 
 // TooDear reports whether a statement's plan is so much dearer with the hidden columns that they aren't used: by more than
 // a third, and by more than what few rows cost that are looked up in a table or listed.
@@ -100,6 +101,8 @@ func (p *Plan) TooDear(with, without float64) bool {
 		most = lookingUp
 	case p.Counts:
 		most = listing
+	case p.Copied:
+		most = copying
 	}
 	return 3*with > 4*without && with-without > most
 }

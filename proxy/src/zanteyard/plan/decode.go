@@ -20,6 +20,9 @@ func (p *Plan) AppendReads(to []record.Read, values [][]byte, binary bool) ([]re
 	if len(values) != p.Hidden() {
 		return to, fmt.Errorf("a row has %d hidden columns in place of %d", len(values), p.Hidden())
 	}
+	if p.Copied {
+		return p.appendCopied(to, values[0], binary)
+	}
 	at := 0
 	if p.TellsNumber {
 		at++
@@ -36,8 +39,13 @@ func (p *Plan) AppendReads(to []record.Read, values [][]byte, binary bool) ([]re
 		group := values[at : at+source.Hidden()]
 		at += source.Hidden()
 		if source.Listed {
+			list, ok := raw(group[0], binary)
+			if !ok {
+				failed = fmt.Errorf("a list of rows of relation %d can't be read", source.Relation)
+				continue
+			}
 			var err error
-			if to, err = source.appendList(to, group[0], binary); err == ErrOtherRelation {
+			if to, err = source.appendList(to, list); err == ErrOtherRelation {
 				return to, err
 			} else if err != nil {
 				failed = err

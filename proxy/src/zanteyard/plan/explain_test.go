@@ -41,8 +41,8 @@ func TestPlansOfTheServer(t *testing.T) {
 			continue
 		}
 		rewritten, _ := p.Rewrite(text, tokens)
-		if p.Looks || p.Counts {
-			with, without := compared(t, connection, p, rewritten), compared(t, connection, p, text)
+		if p.ComparedByForm() {
+			with, without := compared(t, connection, p, rewritten, true), compared(t, connection, p, text, false)
 			if p.TooDear(with.cost, without.cost) || with.form != without.form || with.form == "" {
 				left++
 			} else {
@@ -68,11 +68,11 @@ type price struct {
 	form string
 }
 
-func compared(t *testing.T, connection *pgconn.PgConn, p *Plan, text string) price {
+func compared(t *testing.T, connection *pgconn.PgConn, p *Plan, text string, hidden bool) price {
 	t.Helper()
 	answer := run(t, connection, "EXPLAIN (FORMAT JSON) "+strings.TrimLeft(text, " ;"))[0].Rows[0][0]
 	cost, ok := Cost(answer)
-	its := price{cost, p.Form(answer)}
+	its := price{cost, p.Form(answer, hidden)}
 	if !ok {
 		t.Errorf("the plan of %s can't be read: %s", text, answer)
 	}

@@ -29,6 +29,39 @@ type planned struct {
 	Plans     []planned `json:"Plans"`
 }
 
+// around returns the plan of the statement that a copy is made of, and that of the copy, from the plan of the statement
+// around it.
+func (n *planned) around() (statement, copied *planned) {
+	if n.Type != "WindowAgg" {
+		return nil, nil
+	}
+	for i := range n.Plans {
+		switch its := &n.Plans[i]; {
+		case its.Place == "InitPlan" && copied == nil:
+			copied = its
+		case its.Place == "Outer" && statement == nil:
+			statement = its
+		default:
+			return nil, nil
+		}
+	}
+	if statement != nil && statement.Type == "Subquery Scan" && statement.Alias == alias && len(statement.Plans) == 1 {
+		statement = &statement.Plans[0]
+	}
+	return statement, copied
+}
+
+// looksFurther reports whether a copy reads a table whole that the statement doesn't.
+func (n *planned) looksFurther(copied *planned) bool {
+	its := n.whole(nil)
+	for _, table := range copied.whole(nil) {
+		if !contains(its, table) {
+			return true
+		}
+	}
+	return false
+}
+
 // What is hashed or sorted is split into batches if it takes more memory than the server allows, by default 4 MiB. Wider rows
 // take more. In which order rows come then is in no plan.
 const (
@@ -56,12 +89,16 @@ func (n *planned) large() bool {
 // and the same tables are read whole. A scan of an index alone has the form of one that looks into the table. If the order
 // doesn't matter, the form is only which tables are read whole: at serializable these are locked. "" if the answer can't
 // be read, or doesn't say in which order rows are read.
-func (p *Plan) Form(answer []byte) string {
+func (p *Plan) Form(answer []byte, hidden bool) string {
 	var all []struct {
 		Plan *planned
 	}
 	if json.Unmarshal(answer, &all) != nil || len(all) != 1 || all[0].Plan == nil {
 		return ""
+	}
+	if p.Copied {
+		all[0].Plan.rename()
+		return all[0].Plan.copiedForm(hidden)
 	}
 	if p.ComparedByForm() && !p.Ordered {
 		whole := all[0].Plan.whole(nil)
@@ -74,6 +111,31 @@ func (p *Plan) Form(answer []byte) string {
 	var out strings.Builder
 	all[0].Plan.write(&out)
 	return out.String()
+}
+
+// copiedForm is the form of a statement that is asked once more, or of itself: no row of it is wider.
+func (n *planned) copiedForm(hidden bool) string {
+	if hidden {
+		statement, copied := n.around()
+		if statement == nil || copied == nil || statement.looksFurther(copied) {
+			return ""
+		}
+		n = statement
+		n.Place = ""
+	}
+	var out strings.Builder
+	n.write(&out)
+	return out.String()
+}
+
+// rename takes off what the server puts behind a name that several tables of a statement have.
+func (n *planned) rename() {
+	if at := strings.LastIndexByte(n.Alias, '_'); at > 0 && strings.Trim(n.Alias[at+1:], "0123456789") == "" {
+		n.Alias = n.Alias[:at]
+	}
+	for i := range n.Plans {
+		n.Plans[i].rename()
+	}
 }
 
 // whole appends the tables that are read whole.

@@ -124,12 +124,18 @@ func (h *hiding) wall() string {
 
 // text returns all hidden columns.
 func (h *hiding) text() string {
-	for i, value := range h.values {
-		if i == 0 && len(h.proofs) > 0 {
-			value = "CASE WHEN false AND EXISTS (SELECT FROM " + h.wall() + " WHERE " +
-				strings.Join(h.proofs, " AND ") + ") THEN NULL ELSE " + value + " END"
-		}
-		h.values[i] = value + " AS " + alias
+	all := h.texts()
+	for i := range all {
+		all[i] += " AS " + alias
 	}
-	return strings.Join(h.values, ", ")
+	return strings.Join(all, ", ")
+}
+
+// texts returns them without their names.
+func (h *hiding) texts() []string {
+	if len(h.proofs) > 0 {
+		h.values[0] = "CASE WHEN false AND EXISTS (SELECT FROM " + h.wall() + " WHERE " + strings.Join(h.proofs, " AND ") +
+			") THEN NULL ELSE " + h.values[0] + " END"
+	}
+	return h.values
 }

@@ -35,6 +35,9 @@ func (p *Plan) IsOver(hidden []wire.Column) bool {
 	if len(hidden) != p.Hidden() {
 		return false
 	}
+	if p.Copied { // its lists have the types of the tables' rows
+		return true
+	}
 	at := 0
 	if p.TellsNumber {
 		at++

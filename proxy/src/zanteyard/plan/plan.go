@@ -104,6 +104,9 @@ type Plan struct {
 	TellsVersion bool
 	// Counts means that the first hidden column is how many rows an aggregate was made of. Some of Sources list them.
 	Counts bool
+	// Copied means that the only hidden column of the first row lists the rows of all Sources that the statement was made of;
+	// it is NULL in the others.
+	Copied bool
 	// MayWriteUnseen means that the statement may write without returning a number: a function, COPY, MERGE, a view, an
 	// UPDATE of any number of rows.
 	MayWriteUnseen bool
@@ -175,6 +178,7 @@ type Plan struct {
 	configs    []int // the tokens of their names
 	apart      bool  // its text's lists mustn't be collapsed: another key has its plan
 	sample     string
+	plain      span          // the part of it that is the statement as it is, if Copied
 	rests      *atomic.Int64 // until when it isn't used, in nanoseconds; nil if it never rests
 	relations  []relation
 	target     uint32       // the relation whose row's version TellsVersion has
@@ -188,18 +192,21 @@ func (p *Plan) adds() bool { return len(p.insertions) > 0 }
 func (p *Plan) added() string {
 	all := ""
 	for _, one := range p.insertions {
-		all += one.text
+		all += one.text + one.tail
 	}
 	return all
 }
 
 type tokenRange struct{ from, to int }
 
-// insertion is text that is inserted into a statement, before or after a token.
+// insertion is text that is inserted into a statement, before or after a token. If it has a copy of some tokens of the
+// statement, tail is what follows these.
 type insertion struct {
 	text   string
 	token  int
 	behind bool
+	copied tokenRange
+	tail   string
 }
 
 // position is a constant that means a column by its position, as in ORDER BY 1: it must not come to mean a hidden one.
@@ -217,6 +224,9 @@ type relation struct {
 
 // Hidden returns the number of hidden columns after those of the statement.
 func (p *Plan) Hidden() int {
+	if p.Copied {
+		return 1
+	}
 	hidden := 0
 	if p.TellsNumber {
 		hidden++
@@ -236,6 +246,9 @@ func (p *Plan) Hidden() int {
 // HiddenTypes returns the types of the hidden columns, by object identifier, as a description of the result has them.
 func (p *Plan) HiddenTypes() []uint32 {
 	const xid8, xid, oid, int8, bytea = 5069, 28, 26, 20, 17
+	if p.Copied {
+		return []uint32{bytea}
+	}
 	var types []uint32
 	if p.TellsNumber {
 		types = append(types, xid8)

@@ -85,7 +85,7 @@ func flags(p *Plan) string {
 	}{
 		{p.AddsReturning, "returning"}, {p.TellsNumber, "number"}, {p.TellsVersion, "version"},
 		{p.MayWriteUnseen, "unseen writes"}, {p.ChangesNames, "names"}, {p.Asked, "asked"},
-		{p.Counts, "counts"}, {p.Looks, "looks"}, {p.Ordered, "ordered"},
+		{p.Counts, "counts"}, {p.Looks, "looks"}, {p.Copied, "copied"}, {p.Ordered && !p.Copied, "ordered"},
 	} {
 		if flag.set {
 			all = append(all, flag.name)
@@ -213,10 +213,16 @@ func compare(t *testing.T, connection *pgconn.PgConn, known *catalog.Catalog, sq
 	if one, other := visible(plain.rows, width, inOrder), visible(hidden.rows, width, inOrder); !p.AddsReturning && one != other {
 		t.Fatalf("%q gives %s, %q gives %s", sql, one, rewritten, other)
 	}
-	if p.Counts && isSlow { // its lists may lack rows
+	if p.Lists() && isSlow { // its lists may lack rows
 		return false
 	}
-	for _, row := range hidden.rows {
+	for i, row := range hidden.rows {
+		if p.Copied && i > 0 {
+			if row[width] != nil {
+				t.Errorf("row %d of %q has a list, too", i, rewritten)
+			}
+			continue
+		}
 		told(t, p, row[width:], format == 1, number, versions)
 	}
 	return false
@@ -247,7 +253,9 @@ func told(t *testing.T, p *Plan, hidden [][]byte, binary bool, number string, ve
 			nullable++
 		}
 	}
-	if rows, ok := p.Aggregated(hidden, binary); ok != p.Counts {
+	if rows, ok := p.Aggregated(hidden, binary); p.Copied && ok && rows > MostListed {
+		return
+	} else if ok != p.Lists() {
 		t.Errorf("it counts no rows: %q", hidden)
 	} else if ok {
 		want := uint64(0)

@@ -88,11 +88,14 @@ func (m *maker) finish(p *Plan, stmt statement, field string, start int) {
 		*p = *p.without(reason)
 		return
 	}
+	if p.Copied {
+		p.misplaced = p.without(tooLongToCopy)
+	}
 	if len(p.positions) > 0 {
 		p.misplaced = p.without("ORDER BY or GROUP BY may refer to a column by its position")
 	}
 	p.sample = m.sample(p, stmt, start)
-	if p.Counts || p.Looks {
+	if p.Counts || p.Looks || p.Copied {
 		p.rests = &atomic.Int64{}
 	}
 }
@@ -103,30 +106,50 @@ const maxSample = 16 << 10
 // sample returns the rewritten text of a query or, if that is long, a text with shorter lists.
 func (m *maker) sample(p *Plan, stmt statement, start int) string {
 	first, last := int(m.tokens[start].start), int(m.tokens[stmt.to-1].last)
+	var text string
+	var inserted []Inserted
 	if last-first > maxSample {
 		from, to := m.offsets[start], m.offsets[stmt.to-1]+len(m.word(stmt.to-1))
-		text, _ := insert(m.joined[from:to], p.insertions, func(i int) int { return m.place(p.insertions[i]) - from })
-		return text
+		text, inserted = insert(m.joined[from:to], p.insertions, m.joinedPlaces(from))
+	} else {
+		text, inserted = insert(m.text[first:last], p.insertions, func(one insertion) places { return one.in(m.tokens, first) })
 	}
-	text, _ := insert(m.text[first:last], p.insertions, func(i int) int { return p.insertions[i].in(m.tokens) - first })
+	if p.Copied {
+		p.plain = span{int32(inserted[0].At + inserted[0].Length), int32(inserted[1].At)}
+	}
 	return text
 }
 
-// in returns where an insertion goes in a text.
-func (one insertion) in(tokens []token) int {
-	if one.behind {
-		return int(tokens[one.token].last)
-	}
-	return int(tokens[one.token].start)
+// places are where an insertion goes in a text, and which part of the text it copies.
+type places struct {
+	at     int
+	copied span
 }
 
-// place returns where an insertion goes in the joined text.
-func (m *maker) place(one insertion) int {
-	at := m.offsets[one.token]
+// in returns an insertion's places in a text that begins at a byte of the one that has the tokens.
+func (one insertion) in(tokens []token, begin int) places {
+	its := places{at: int(tokens[one.token].start) - begin}
 	if one.behind {
-		at += len(m.word(one.token))
+		its.at = int(tokens[one.token].last) - begin
 	}
-	return at
+	if c := one.copied; c.to > 0 {
+		its.copied = span{tokens[c.from].start - int32(begin), tokens[c.to-1].last - int32(begin)}
+	}
+	return its
+}
+
+// joinedPlaces returns a function for an insertion's places in the joined text, from a byte on.
+func (m *maker) joinedPlaces(begin int) func(one insertion) places {
+	return func(one insertion) places {
+		its := places{at: m.offsets[one.token] - begin}
+		if one.behind {
+			its.at += len(m.word(one.token))
+		}
+		if c := one.copied; c.to > 0 {
+			its.copied = span{int32(m.offsets[c.from] - begin), int32(m.offsets[c.to-1] + len(m.word(c.to-1)) - begin)}
+		}
+		return its
+	}
 }
 
 // without returns the plan that leaves the statement unchanged.
@@ -155,12 +178,15 @@ func (m *maker) mentions(name string) bool {
 // sound reports whether the rewritten text means the same as the text, except for the hidden columns after the others:
 // the parser decides.
 func (m *maker) sound(p *Plan, stmt statement, field string) bool {
-	text, _ := insert(m.joined, p.insertions, func(i int) int { return m.place(p.insertions[i]) })
+	text, _ := insert(m.joined, p.insertions, m.joinedPlaces(0))
 	trees, err := parse(text)
 	if err != nil || len(trees) != 1 {
 		return false
 	}
 	rewritten := trees[0].node("stmt")
+	if p.Copied {
+		return copyOf(stmt.tree, rewritten)
+	}
 	_, body := only(rewritten)
 	if body.has("query") { // DECLARE, PREPARE
 		_, body = only(body["query"])

@@ -5,6 +5,8 @@ import (
 	"os"
 	"strconv"
 	"testing"
+
+	"zanteyard/catalog"
 )
 
 // nasty is a schema whose names are hard to quote.
@@ -53,13 +55,15 @@ func wanted(usual int) int {
 func TestRandomStatements(t *testing.T) {
 	connection := connect(t, "random", nasty)
 	known := load(t, connection)
-	cache := NewCache(known)
+	caches := [2]*Cache{NewCache(known), NewCache(load(t, connection, catalog.OnlyCertainLists))}
 	statements := wanted(300)
-	changed, failed, sources := 0, 0, 0
+	changed, failed, sources, copied := 0, 0, 0, 0
 	for seed := 0; seed < statements; seed++ {
 		w := &writer{Rand: rand.New(rand.NewSource(int64(seed)))}
 		text := ""
-		switch w.Intn(6) {
+		switch w.Intn(7) {
+		case 6:
+			text = w.merged()
 		case 0:
 			text = w.insert()
 		case 1:
@@ -67,16 +71,17 @@ func TestRandomStatements(t *testing.T) {
 		default:
 			text = w.query()
 		}
-		p, tokens := cache.Plan(text)
+		p, tokens := caches[seed%2].Plan(text)
 		if !p.adds() {
 			continue
 		}
 		changed++
 		untouched(t, text, p, tokens)
 		// Rows without an order come as the server's plan produces them, and wider rows may have another plan.
-		if compare(t, connection, known, text, p, tokens, int16(seed%2), false) {
+		if compare(t, connection, known, text, p, tokens, int16(seed/2%2), p.Copied) {
 			failed++
 		} else {
+			copied += isOne(p.Copied)
 			sources += len(p.Sources)
 			tried(t, connection, p, true)
 		}
@@ -84,9 +89,16 @@ func TestRandomStatements(t *testing.T) {
 			t.Fatalf("statement %d: %q", seed, text)
 		}
 	}
-	t.Logf("%d statements, %d rewritten, %d of them refused by the server in both forms, %d tables seen", statements, changed,
-		failed, sources)
-	if changed < statements/3 || failed > changed*3/4 {
+	t.Logf("%d statements, %d rewritten, %d of them refused by the server in both forms, %d tables seen, %d copied", statements,
+		changed, failed, sources, copied)
+	if changed < statements/3 || failed > changed*3/4 || copied < statements/30 {
 		t.Errorf("too few statements were compared")
 	}
+}
+
+func isOne(is bool) int {
+	if is {
+		return 1
+	}
+	return 0
 }

@@ -13,6 +13,7 @@ type span struct{ from, to int32 }
 // for.
 type Tokens struct {
 	at        int   // of the first insertion; nowhere if nothing is inserted
+	copied    span  // what the first one copies
 	further   []int // of the others
 	constants [maxAsked + 1]span
 	follow    []span
@@ -39,29 +40,33 @@ func (p *Plan) Rewrite(text string, tokens Tokens) (rewritten string, inserted [
 	if tokens.at == nowhere {
 		return text, nil
 	}
-	return insert(text, p.insertions, func(i int) int {
-		if i == 0 {
-			return tokens.at
+	i := -1
+	return insert(text, p.insertions, func(insertion) places {
+		if i++; i == 0 {
+			return places{tokens.at, tokens.copied}
 		}
-		return tokens.further[i-1]
+		return places{at: tokens.further[i-1]}
 	})
 }
 
 // insert returns a text with each insertion at its place, which is a byte of the text.
-func insert(text string, all []insertion, place func(i int) int) (string, []Inserted) {
+func insert(text string, all []insertion, find func(one insertion) places) (string, []Inserted) {
 	size := len(text)
-	for i := range all {
-		size += len(all[i].text)
+	for _, one := range all {
+		size += len(one.text) + len(one.tail)
 	}
 	var out strings.Builder
 	out.Grow(size)
 	inserted, last := make([]Inserted, len(all)), 0
-	for i := range all {
-		at := place(i)
-		out.WriteString(text[last:at])
-		inserted[i] = Inserted{out.Len(), len(all[i].text)}
-		out.WriteString(all[i].text)
-		last = at
+	for i, one := range all {
+		its := find(one)
+		out.WriteString(text[last:its.at])
+		begin := out.Len()
+		out.WriteString(one.text)
+		out.WriteString(text[its.copied.from:its.copied.to])
+		out.WriteString(one.tail)
+		inserted[i] = Inserted{begin, out.Len() - begin}
+		last = its.at
 	}
 	out.WriteString(text[last:])
 	return out.String(), inserted
@@ -105,6 +110,10 @@ func (p *Plan) Trial() Trial {
 	its := Trial{Statements: []string{p.sample}, Privileges: privileges(p.relations, p.functions())}
 	if p.Compared() || p.Inner != nil && p.Inner.Compared() {
 		its.Plain = p.sample
+		if p.Copied {
+			its.Plain = p.sample[p.plain.from:p.plain.to]
+			return its
+		}
 		for _, one := range p.insertions { // each has names that are nowhere else
 			its.Plain = strings.Replace(its.Plain, one.text, "", 1)
 		}

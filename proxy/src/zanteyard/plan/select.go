@@ -2,8 +2,22 @@ package plan
 
 import "zanteyard/catalog"
 
-// selects adds the hidden columns of each table whose rows a SELECT returns, one for each row of its result.
+// selects adds the hidden columns of each table whose rows a SELECT returns, one for each row of its result. If these can't
+// show all that it has read, since it merges rows, it is asked for them once more.
 func (m *maker) selects(p *Plan, body node, start, end int) {
+	before := *p
+	before.Unseen = p.Unseen[:len(p.Unseen):len(p.Unseen)]
+	m.selectsRows(p, body, start, end)
+	if lists, _ := m.merges(body); !lists || len(p.Unseen) == len(before.Unseen) {
+		return
+	}
+	if its := before; m.repeats(&its, body, start, end) && (!p.adds() || len(its.Unseen) < len(p.Unseen)) {
+		*p = its
+	}
+}
+
+// selectsRows is selects without asking again.
+func (m *maker) selectsRows(p *Plan, body node, start, end int) {
 	if makesTable(body) {
 		p.Kind, p.MayWriteUnseen, p.ChangesNames = Definition, true, true
 		p.leaveOut("a table created from a query")

@@ -24,8 +24,8 @@ func (p *Plan) functions() (all []string) {
 			all = append(all, call[1])
 		}
 	}
-	if p.Counts || p.Inner != nil && p.Inner.Counts {
-		all = append(all, "timestamptz_lt", "timestamptz_pl_interval", "int84le", "int4le")
+	if p.Lists() || p.Inner != nil && p.Inner.Lists() {
+		all = append(all, "timestamptz_lt", "timestamptz_pl_interval", "int84le", "int4le", "int84eq")
 	}
 	return all
 }

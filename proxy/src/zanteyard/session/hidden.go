@@ -21,6 +21,9 @@ func (s *Session) hidden(e *expectation, values [][]byte) {
 	if n, ok := p.Version(values, isBinary); ok && !s.tx.parted && e.knowsTables() {
 		s.tx.version(n)
 	}
+	if p.Copied && values[0] == nil {
+		return // the first row has it all
+	}
 	reads, err := p.AppendReads(s.reads[:0], values, isBinary)
 	s.reads = reads
 	reads = s.comparable(p, reads)
@@ -48,7 +51,11 @@ func (s *Session) hidden(e *expectation, values [][]byte) {
 		s.notSeen(p.Shape, reason, true)
 		e.missed, e.why = e.missed+int(isOne(counts)), reason
 	} else {
-		s.tx.read(reads, s.options.ReadLimit, counts && isWhole)
+		if p.Copied {
+			e.copied = append(e.copied[:0], reads...)
+		} else {
+			s.tx.read(reads, s.options.ReadLimit, counts && isWhole)
+		}
 		switch {
 		case !counts:
 		case reason != "":

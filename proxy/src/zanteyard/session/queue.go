@@ -4,6 +4,7 @@ import (
 	"time"
 
 	"zanteyard/plan"
+	"zanteyard/record"
 )
 
 // purpose is the purpose of one of the proxy's own messages. The answers to those are never passed on.
@@ -31,18 +32,21 @@ type expectation struct {
 	kind purpose
 	// message is the message's type: P B D E C S Q F; H is a malformed Flush; c is the end of a copy, which is owed
 	// nothing.
-	message  byte
-	mute     bool // the answer isn't passed on, though the message is the client's
-	binary   bool // hidden columns come as binary
-	cleared  bool // the unnamed statement is gone, even if this one fails
-	changed  bool // the statement was rewritten
-	hidden   int  // number of hidden columns in the answer
-	part     int  // which of several statements is being answered
-	pieces   []piece
-	rows     int        // rows of the statement that is being answered
-	wrote    bool       // its transaction may have written before it
-	loose    int        // of these, how many have no version
-	beyond   int        // and how many were made of more rows than are listed
+	message byte
+	mute    bool // the answer isn't passed on, though the message is the client's
+	binary  bool // hidden columns come as binary
+	cleared bool // the unnamed statement is gone, even if this one fails
+	changed bool // the statement was rewritten
+	hidden  int  // number of hidden columns in the answer
+	part    int  // which of several statements is being answered
+	pieces  []piece
+	rows    int  // rows of the statement that is being answered
+	wrote   bool // its transaction may have written before it
+	loose   int  // of these, how many have no version
+	beyond  int  // and how many were made of more rows than are listed
+	// copied are the reads of a statement that lists all of them with its first row: they count when it has returned all rows.
+	copied   []record.Read
+	halted   bool       // its Execute had a row limit, and there may be more
 	made     uint64     // of how many rows all were made, if the plan counts them
 	missed   int        // and of how many the reads can't be reported
 	why      string     // why those can't

@@ -206,7 +206,12 @@ func shapes() []shape {
 		{"SELECT tag, id FROM one WHERE id < $1 ORDER BY id LIMIT 4", key, func(row []string) []seen {
 			return []seen{{"one", row[1], row[0]}}
 		}},
-		{"SELECT DISTINCT tag FROM one WHERE id < $1", key, none},
+		{"SELECT DISTINCT tag, id FROM one WHERE id < $1", key, func(row []string) []seen {
+			return []seen{{"one", row[1], row[0]}}
+		}},
+		{"SELECT tag, string_agg(id || ' ' || tag, ',') FROM one WHERE id <> $1 GROUP BY tag", key, listed("one", 1, 1)},
+		{"SELECT DISTINCT one.id, one.tag, two.a, two.b, two.tag FROM one LEFT JOIN two ON two.a = one.id AND two.b > 'b2' " +
+			"WHERE one.n >= $1 AND one.id IN (SELECT id FROM parts)", key, both},
 		{"SELECT DISTINCT tag, id FROM one WHERE id < $1 ORDER BY id, tag", key, func(row []string) []seen {
 			return []seen{{"one", row[1], row[0]}}
 		}},

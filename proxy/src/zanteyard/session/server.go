@@ -291,7 +291,7 @@ func (s *Session) ownRow(e *expectation, m []byte) {
 	case costRow:
 		if cost, ok := plan.Cost(values[0]); ok {
 			e.use.costs = append(e.use.costs, cost)
-			e.use.forms = append(e.use.forms, rows(e.use.plan).Form(values[0]))
+			e.use.forms = append(e.use.forms, rows(e.use.plan).Form(values[0], len(e.use.forms) == 0))
 		}
 	}
 }
@@ -313,7 +313,7 @@ func (s *Session) complete(e *expectation, m []byte) {
 		if e.at != nil { // it may be executed again, and then returns what is left, if anything is
 			e.at.counted = true
 		}
-		e.rows, e.loose, e.beyond, e.missed, e.made = 0, 0, 0, 0, 0
+		e.rows, e.loose, e.beyond, e.missed, e.made, e.copied = 0, 0, 0, 0, 0, e.copied[:0]
 		if e.guessed { // what comes next may be another statement of the text
 			e.hides, e.hidden, e.guessed = nil, 0, false
 		}

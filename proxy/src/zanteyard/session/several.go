@@ -75,6 +75,7 @@ func (s *Session) several(o *output, st *statement, e *expectation, start, end i
 func (e *expectation) piece(i int) {
 	e.part = i
 	e.hides, e.hidden, e.changed, e.use, e.rows, e.loose, e.made, e.asking = nil, 0, false, nil, 0, 0, 0, nil
+	e.beyond, e.missed, e.copied = 0, 0, e.copied[:0]
 	e.isOver = false
 	if i >= len(e.pieces) {
 		return

@@ -155,6 +155,8 @@ func (s *Session) sumSelect(p *plan.Plan, e *expectation, reason string, n uint6
 	switch {
 	case reason != "":
 		d.Leave(reason, false, one, 0, n)
+	case p.Copied && n > 0:
+		s.sumCopied(p, e, isFirst, n)
 	case n == 0 && !isCursor && isFirst && p.Asked && e.hidden > 0: // absent counts it
 	case n == 0 && !isCursor && isFirst && e.asking != nil && e.asking.done:
 		at := int32(len(s.tx.Reads))
@@ -181,6 +183,40 @@ func (s *Session) sumSelect(p *plan.Plan, e *expectation, reason string, n uint6
 		its.To = int32(len(s.tx.Reads))
 		d.Selects = append(d.Selects, its)
 	}
+}
+
+// notAll is why a statement isn't seen that lists all it has read with its first row, if the client doesn't take all rows at
+// once: it isn't known which of these it has taken.
+const notAll = "a portal that returns a part of its rows at a time"
+
+// sumCopied counts a SELECT that lists all it has read with its first row.
+func (s *Session) sumCopied(p *plan.Plan, e *expectation, isFirst bool, n uint64) {
+	d := &s.tx.Did
+	reason, inPart := "", false
+	switch {
+	case !isFirst || e.halted:
+		reason, e.copied = notAll, e.copied[:0]
+	case e.missed > 0:
+		reason = e.why
+	case len(p.Unseen) > 0:
+		reason, inPart = p.Unseen[0].Reason, len(e.copied) > 0
+	case e.beyond > 0:
+		reason = tooManyRows
+	case len(e.copied) == 0:
+		reason = foundNoRow
+	case len(d.Selects) >= mostSelects:
+		reason = record.NotKept
+	}
+	if reason != "" {
+		s.tx.read(e.copied, s.options.ReadLimit, false)
+		d.Leave(reason, inPart, isOne(isFirst), 0, n)
+		return
+	}
+	s.tx.read(e.copied, s.options.ReadLimit, true)
+	s.tx.returned(e.copied[0], uint32(n-1))
+	its := s.tx.reading
+	its.To = int32(len(s.tx.Reads))
+	d.Selects = append(d.Selects, its)
 }
 
 func (s *Session) sumWrite(p *plan.Plan, e *expectation, reason string, n uint64, verb string) {
@@ -217,7 +253,9 @@ func (s *Session) suspended(e *expectation) {
 	if !e.changed && e.use != nil {
 		reason = s.trust.why(e.use)
 	}
+	e.halted = true
 	s.sumSelect(p, e, reason, uint64(e.rows))
+	e.halted = false
 	e.at.counted = true
 }
 

@@ -123,6 +123,15 @@ func (t *transaction) read(reads []record.Read, limit int, counts bool) {
 	}
 }
 
+// returned counts further rows that were returned with a read.
+func (t *transaction) returned(with record.Read, n uint32) {
+	if at := t.find(with); at >= 0 {
+		t.Did.Repeated(at, len(t.Reads), n)
+	} else {
+		t.Did.Beyond += uint64(n)
+	}
+}
+
 // find returns the place of a read, or -1.
 func (t *transaction) find(r record.Read) int {
 	if len(t.Reads) < fewReads {
