@@ -185,7 +185,8 @@ func compare(t *testing.T, connection *pgconn.PgConn, known *catalog.Catalog, sq
 	versions := stored(t, connection, known, p)
 	began := time.Now()
 	hidden := ask(connection, rewritten, format)
-	isSlow := time.Since(began) >= listedFor
+	took := time.Since(began)
+	isSlow := took >= listedFor || p.Copied && took >= copiedFor
 	number, end := "", "ROLLBACK"
 	if hidden.err == "" {
 		end = "SELECT coalesce(pg_current_xact_id_if_assigned()::text, ''); ROLLBACK"
