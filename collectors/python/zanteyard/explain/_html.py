@@ -162,7 +162,7 @@ def _heading(story: Story) -> str:
     if story.kind == Kind.VIOLATED and story.promise.is_split:
         return "These transactions can't have run on snapshots"
     if story.kind == Kind.VIOLATED and story.promise.is_timed:
-        return "These transactions can't have run one at a time, each at its own time"
+        return "These transactions can't have run one at a time, in the order of their times"
     return HEADINGS[story.kind]
 
 
