@@ -175,6 +175,7 @@ def stage(folder: str, programs: Sequence[str], is_proved: bool) -> None:
     for name in ("LICENSE", "LICENSES.md", "LICENSE-TEXTS.txt"):
         shutil.copy(os.path.join(TOP, name), folder)
     shutil.copytree(os.path.join(TOP, "docs"), os.path.join(package, "docs"))  # errors name them
+    shutil.copy(os.path.join(TOP, "README.md"), os.path.join(package, "docs"))  # WATCH names it
     inside = os.path.join(package, "program", "bin")
     os.mkdir(inside)
     for path in programs:
