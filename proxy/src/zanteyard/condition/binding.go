@@ -9,6 +9,7 @@ import (
 
 	"zanteyard/catalog"
 	"zanteyard/keys"
+	"zanteyard/record"
 )
 
 // Arguments are what a statement has in the places of its form's constants and parameters.
@@ -23,8 +24,10 @@ type Arguments struct {
 	Parameters [][]byte
 	Formats    []int16
 	Types      []uint32
-	// Outer are the canonical texts (package keys) of the values that Form.Outer names.
-	Outer []string
+	// Beside are the keys of the other tables' rows that are in the result, by the names by which the statement knows these
+	// tables, each once. HasRows says that the result has rows at all.
+	Beside  map[string][]record.Key
+	HasRows bool
 	// Escapes says that standard_conforming_strings is off: a backslash in a constant has another meaning.
 	Escapes bool
 	// Temporary says that the connection has temporary objects: a type among them comes before the server's own.
@@ -57,7 +60,7 @@ const (
 // Bind makes the condition of a statement with these constants and parameters. The error is a Refusal.
 func (f *Form) Bind(with Arguments) (*Condition, error) {
 	b := &binder{form: f, with: with}
-	its, err := f.root.bind(b)
+	its, err := f.bindAll(b)
 	if err != nil {
 		return nil, err
 	}
@@ -72,6 +75,32 @@ func (f *Form) Bind(with Arguments) (*Condition, error) {
 	}
 	made.text, made.shape = f.words(its.text), f.words(its.shape)
 	return made, nil
+}
+
+// bindAll binds the form's own part, and what it asks for beside other tables' rows.
+func (f *Form) bindAll(b *binder) (part, error) {
+	if f.Given && !b.with.HasRows {
+		return part{}, noneBeside
+	}
+	var parts []part
+	if _, isAll := f.root.(all); !isAll || len(f.beside) == 0 {
+		its, err := f.root.bind(b)
+		if err != nil {
+			return part{}, err
+		}
+		parts = append(parts, its)
+	}
+	for _, one := range f.beside {
+		its, err := b.standing(one)
+		if err != nil {
+			return part{}, err
+		}
+		parts = append(parts, its)
+	}
+	if len(parts) == 1 {
+		return parts[0], nil
+	}
+	return joined(parts, true), nil
 }
 
 // words writes a condition for people.
@@ -90,6 +119,7 @@ type binder struct {
 	count    int            // of values
 	left     int            // parameters that were left out of the form's text, and that it has
 	inferred map[int]uint32 // the types of parameters for which the server determines them
+	row      []string       // the key of another table's row, beside which it is bound
 }
 
 // value is a value in a statement. Its type is 0 if the server determines it by what it is compared with.

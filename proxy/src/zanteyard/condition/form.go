@@ -20,8 +20,8 @@ type Form struct {
 	Outer []Outer
 
 	// Drops says why the statement's result may lack a row that satisfies the condition, or "" if it can't: then whatever
-	// isn't in the result was passed over. What a result's rows are made of, if it has aggregates, groups or DISTINCT, is
-	// for the caller to know.
+	// isn't in the result was passed over. What a result's rows are made of, if it has aggregates, groups, HAVING or DISTINCT,
+	// is for the caller to know.
 	Drops string
 
 	catalog  *catalog.Catalog
@@ -30,6 +30,7 @@ type Form struct {
 	// elsewhere counts the places in which the statement has a parameter outside of what the form reads.
 	elsewhere map[int]int
 	root      expression
+	beside    []beside
 }
 
 // Why a statement isn't followed, or one of its tables.
@@ -158,8 +159,6 @@ func (f *Form) drops(kind string, body tree) string {
 		return "LIMIT or OFFSET"
 	case distinctOn(body):
 		return "DISTINCT ON"
-	case body.has("havingClause"):
-		return "HAVING"
 	}
 	reason := ""
 	visit(map[string]any(body), func(kind string, call tree) {

@@ -1,24 +1,44 @@
 package condition
 
-import "zanteyard/catalog"
+import (
+	"sort"
+	"strings"
+
+	"zanteyard/catalog"
+	"zanteyard/record"
+)
 
 // What a SELECT over several tables asks of one of them depends on the others' rows. For a row of the result, the others'
 // rows in it are constants: whatever row of the table would satisfy the conditions beside them is in the result beside
 // them, too. If outer joins add all other tables, what is asked of the table doesn't depend on them at all.
+//
+// So a table's condition is its own part, and that it stands beside one of the rows of another table that are in the
+// result. If there are several such tables, one row of each is enough if nothing but this table joins them: then each of
+// their rows is beside each.
 
 // Side is what a SELECT asks of one of its tables, or why that isn't followed.
 type Side struct {
 	Name string // by which the statement knows the table
 	Form *Form  // nil if it isn't followed
 	Why  error
+	// Whole means that beside each row of the others it asks for one row, by its whole key: no other one can satisfy it. An
+	// outer join may find none.
+	Whole    bool
+	Nullable bool // an outer join adds it
 }
 
-// Outer is a column of another table's key, whose value in a row of the result a form depends on.
+// Outer is a column of another table's key, on whose value in a row of the result a form depends.
 type Outer struct {
 	Name   string // by which the statement knows the other table
 	Table  *catalog.Table
 	Column *catalog.Column
 	Place  int // among the columns of the table's key
+}
+
+// beside is what a form asks for beside a row of another table.
+type beside struct {
+	name string // by which the statement knows that table
+	root expression
 }
 
 const (
@@ -27,6 +47,10 @@ const (
 	maybeMissing = Refusal("a condition on a table that an outer join may leave out")
 	unsettled    = Refusal("a function or subquery over other tables")
 	ambiguous    = Refusal("a column that several tables have")
+	severalRows  = Refusal("a condition over three tables")
+	outerType    = Refusal("a key of a type that isn't compared with other tables'")
+	locksRows    = Refusal("FOR UPDATE of several tables")
+	noneBeside   = Refusal("a join of no rows, beside which others could stand")
 )
 
 // scope is a table of a FROM clause.
@@ -65,6 +89,9 @@ func Joined(statement map[string]any, text string, c *catalog.Catalog) ([]Side, 
 	if len(j.scopes) < 2 {
 		return nil, notOneTable
 	}
+	if body.has("lockingClause") { // what is locked is tried again, beside the same rows of the others
+		return nil, locksRows
+	}
 	j.where = append(j.where, conjuncts(body["whereClause"])...)
 	sides := make([]Side, len(j.scopes))
 	for i, one := range j.scopes {
@@ -72,6 +99,7 @@ func Joined(statement map[string]any, text string, c *catalog.Catalog) ([]Side, 
 		if sides[i].Form, sides[i].Why = j.side(one, statement, text); sides[i].Why != nil {
 			sides[i].Form = nil
 		}
+		sides[i].Whole, sides[i].Nullable = j.byWholeKey(one), one.nullable
 	}
 	return sides, nil
 }
@@ -125,6 +153,8 @@ func (j *joins) table(entry any, body tree) error {
 	switch {
 	case !ok, body.has("catalogname"), table.Kind != 'r' && table.Kind != 'p':
 		return unknownTable
+	case table.RowSecurity: // a policy may hold of a row beside one row, and not beside another
+		return rowSecurity
 	case body.tree("alias").has("colnames"):
 		return renamedColumns
 	}
@@ -207,65 +237,148 @@ func (j *joins) side(of *scope, statement map[string]any, text string) (*Form, e
 			return nil, maybeMissing
 		case its:
 			asked = append(asked, one)
-		case !settled(one, j.catalog): // it may differ from row to row
+		case !j.settled(one): // it may differ from row to row
 			return nil, unsettled
 		}
 	}
 	r := &reader{form: f, joins: j}
 	var args []expression
+	others := map[string][]expression{}
 	for _, one := range asked {
+		from := len(f.Outer)
 		its, err := r.truth(one)
 		if err != nil {
 			return nil, err
 		}
-		args = append(args, its)
+		name := ""
+		for _, outer := range f.Outer[from:] {
+			if name != "" && name != outer.Name {
+				return nil, severalRows
+			}
+			name = outer.Name
+		}
+		if name == "" {
+			args = append(args, its)
+			continue
+		}
+		if others[name] == nil {
+			f.beside = append(f.beside, beside{name: name})
+		}
+		others[name] = append(others[name], its)
 	}
-	switch len(args) {
-	case 0:
-		f.root = all{}
-	case 1:
-		f.root = args[0]
-	default:
-		f.root = junction{args, true}
+	f.root = allOf(args)
+	groups := j.joinedWithout(of)
+	for i := range f.beside {
+		for k := range f.beside[:i] {
+			if groups[f.beside[i].name] == groups[f.beside[k].name] {
+				return nil, severalRows // a row of each that are beside each other
+			}
+		}
+		f.beside[i].root = allOf(others[f.beside[i].name])
 	}
 	_, body := open(statement)
 	f.Drops = f.drops("SelectStmt", body)
 	return f, nil
 }
 
-// mentions reports whether a condition mentions a table, and others that an outer join may leave out.
-func (j *joins) mentions(value any, of *scope) (its, nullable bool, err error) {
-	visit(value, func(kind string, body tree) {
-		if kind != "ColumnRef" {
-			return
-		}
-		found, _, wrong := j.resolve(body.names("fields"))
-		switch {
-		case wrong != nil:
-			err = wrong
-		case found == of:
-			its = true
-		default:
-			nullable = nullable || found.nullable
-		}
-	})
-	return its, nullable, err
+// allOf joins expressions by AND.
+func allOf(args []expression) expression {
+	switch len(args) {
+	case 0:
+		return all{}
+	case 1:
+		return args[0]
+	}
+	return junction{args, true}
 }
 
-// settled reports whether a condition that the rows of the result satisfy would be satisfied again.
-func settled(value any, c *catalog.Catalog) bool {
-	its := true
-	visit(value, func(kind string, body tree) {
-		switch kind {
-		case "SubLink", "FuncCall", "CurrentOfExpr":
-			its = false
-		case "A_Expr":
-			for _, name := range body.names("name") {
-				its = its && c.PureOperator(name)
+// joinedWithout says which other tables are joined by conditions that don't mention a table: those with the same number.
+func (j *joins) joinedWithout(of *scope) map[string]int {
+	group := map[string]int{}
+	for i, one := range j.scopes {
+		group[one.name] = i
+	}
+	join := func(value any) {
+		named, _ := j.named(value)
+		names, hasIt := []string(nil), false
+		for _, one := range named {
+			names, hasIt = append(names, one.name), hasIt || one == of
+		}
+		if hasIt || len(names) == 0 {
+			return
+		}
+		for _, name := range names[1:] {
+			from, to := group[name], group[names[0]]
+			for other, its := range group {
+				if its == from {
+					group[other] = to
+				}
 			}
 		}
-	})
-	return its
+	}
+	for _, one := range j.where {
+		join(one)
+	}
+	for _, its := range j.scopes {
+		for _, one := range its.quals {
+			join(one)
+		}
+	}
+	return group
+}
+
+// byWholeKey reports whether a table is asked for a row by its whole key, beside each row of the others.
+func (j *joins) byWholeKey(of *scope) bool {
+	named := map[int16]bool{}
+	for _, one := range append(append([]any(nil), of.quals...), j.where...) {
+		if kind, body := open(one); kind == "A_Expr" && body.text("kind") == "AEXPR_OP" && isEquals(body) {
+			for _, sides := range [][2]string{{"lexpr", "rexpr"}, {"rexpr", "lexpr"}} {
+				kind, its := open(body[sides[0]])
+				if kind != "ColumnRef" {
+					continue
+				}
+				found, column, err := j.resolve(its.names("fields"))
+				if err == nil && found == of && j.isFixed(body[sides[1]], of) {
+					named[column.Number] = true
+				}
+			}
+		}
+	}
+	for i := range of.table.Key {
+		if !named[of.table.Key[i].Number] {
+			return false
+		}
+	}
+	return len(of.table.Key) > 0
+}
+
+func isEquals(body tree) bool {
+	its, err := symbolOf(body)
+	return err == nil && its.name == "="
+}
+
+// isFixed reports whether an expression is a constant, a parameter or another table's column.
+func (j *joins) isFixed(value any, of *scope) bool {
+	switch kind, body := open(value); kind {
+	case "A_Const", "ParamRef":
+		return true
+	case "TypeCast":
+		return j.isFixed(body["arg"], of)
+	case "ColumnRef":
+		found, _, err := j.resolve(body.names("fields"))
+		return err == nil && found != of
+	}
+	return false
+}
+
+// mentions reports whether a condition mentions a table, and others that an outer join may leave out.
+func (j *joins) mentions(value any, of *scope) (its, nullable bool, err error) {
+	named, err := j.named(value)
+	for _, one := range named {
+		its = its || one == of
+		nullable = nullable || one != of && one.nullable
+	}
+	return its, nullable, err
 }
 
 // resolve finds the table and column that a name means.
@@ -323,6 +436,11 @@ func (r *reader) outer(names []string) (operand, error) {
 	case column.Collation == catalog.NotDeterministic:
 		return operand{}, anotherCollation
 	}
+	switch familyOfColumn(column) {
+	case integers, texts, uuids:
+	default:
+		return operand{}, outerType
+	}
 	for i := range other.table.Key {
 		if other.table.Key[i].Number == column.Number {
 			r.form.Outer = append(r.form.Outer, Outer{other.name, other.table, column, i})
@@ -332,14 +450,71 @@ func (r *reader) outer(names []string) (operand, error) {
 	return operand{}, notItsKey
 }
 
-// outer is the value of another table's column in the row of the result.
+// outer is the value of another table's column in the row that the condition is bound for.
 func (b *binder) outer(of operand) (value, error) {
 	if of.cast != 0 {
 		return value{}, aCast
 	}
-	if of.outer > len(b.with.Outer) {
+	its := b.form.Outer[of.outer-1]
+	if its.Place >= len(b.row) {
 		return value{}, Refusal("a row of another table that isn't known")
 	}
-	column := b.form.Outer[of.outer-1].Column
-	return b.cast(value{typ: column.Base, raw: []byte(b.with.Outer[of.outer-1]), canonical: true, shownAs: column.Type}, 0)
+	return b.cast(value{typ: its.Column.Base, raw: []byte(b.row[its.Place]), canonical: true, shownAs: its.Column.Type}, 0)
+}
+
+// standing binds what a form asks for beside the rows of another table: it holds of a row that could stand beside one of
+// them.
+func (b *binder) standing(of beside) (part, error) {
+	rows := append([]record.Key(nil), b.with.Beside[of.name]...)
+	if len(rows) == 0 {
+		return part{}, noneBeside
+	}
+	sort.Slice(rows, func(i, k int) bool { return rows[i] < rows[k] })
+	if its, ok := of.root.(compared); ok && its.is == equal && its.value.outer > 0 {
+		return b.amongRows(its, rows)
+	}
+	left, known := b.left, map[string]bool{}
+	var parts []part
+	for _, row := range rows {
+		b.left, b.row = left, strings.Split(string(row), "\x00")
+		its, err := of.root.bind(b)
+		if err != nil {
+			return part{}, err
+		}
+		if !known[its.key] {
+			known[its.key] = true
+			parts = append(parts, its)
+		}
+	}
+	if b.row = nil; len(parts) == 1 {
+		return parts[0], nil
+	}
+	return joined(parts, false), nil
+}
+
+// amongRows binds column = other.key for several rows of the other table.
+func (b *binder) amongRows(of compared, rows []record.Key) (part, error) {
+	its := &membership{is: equal}
+	shown := make([]string, 0, len(rows))
+	for _, row := range rows {
+		b.row = strings.Split(string(row), "\x00")
+		one, err := b.one(of.value)
+		if err != nil {
+			return part{}, err
+		}
+		column, unknown, err := b.pair(of.column, []value{one}, false)
+		if err != nil {
+			return part{}, err
+		}
+		made, err := b.datum(one, column, unknown)
+		if err != nil {
+			return part{}, err
+		}
+		its.column, its.values, shown = column, append(its.values, made), append(shown, one.shown(unknown))
+	}
+	b.row = nil
+	its.sort()
+	made := part{clause: its, key: its.key(), strength: aTest}
+	made.text, made.shape = among{column: of.column}.words(shown)
+	return made, nil
 }

@@ -1,17 +1,22 @@
 package condition_test
 
 import (
+	"flag"
 	"fmt"
 	"math/rand"
 	"strings"
 	"testing"
+	"time"
+
+	"github.com/jackc/pgconn"
 
 	"zanteyard/condition"
+	"zanteyard/record"
 )
 
 const joinsSchema = `CREATE TABLE a (id int PRIMARY KEY, x int, t text); CREATE TABLE b (id int PRIMARY KEY, a_id int, z int, t text);
 	CREATE TABLE c (id int, n int, z int, PRIMARY KEY (id, n)); CREATE TABLE secured (id int PRIMARY KEY, a_id int);
-	ALTER TABLE secured ENABLE ROW LEVEL SECURITY;`
+	ALTER TABLE secured ENABLE ROW LEVEL SECURITY; CREATE VIEW viewed AS SELECT * FROM a;`
 
 // joined has, for each join, why each of its tables isn't followed, or "" if it is.
 var joined = []struct{ from, why string }{
@@ -31,15 +36,26 @@ var joined = []struct{ from, why string }{
 	{"a JOIN c USING (id) WHERE c.z = 1", "|"},
 	{"a JOIN c USING (id) WHERE id = 1", "|"},
 	{"a LEFT JOIN c USING (id) WHERE id > 1", "|"},
-	{"a JOIN b ON a.id = b.id JOIN c ON c.id = b.id AND c.n = a.id WHERE c.z IN (0, 1)", "||"},
+	{"a JOIN b ON a.id = b.id JOIN c ON c.id = b.id AND c.n = a.id WHERE c.z IN (0, 1)",
+		"a condition over three tables|a condition over three tables|a condition over three tables"},
+	{"b JOIN a ON b.a_id = a.id JOIN c ON c.id = b.z AND c.n = 1",
+		"|a column of another table that isn't in its key|a column of another table that isn't in its key"},
 	{"a LEFT JOIN b ON b.a_id = a.id LEFT JOIN c ON c.id = b.id AND c.z = 0 WHERE a.x < 2", "||"},
 	{"a LEFT JOIN b ON b.a_id = a.id LEFT JOIN c ON c.id = a.id WHERE b.z = 1",
 		"a condition on a table that an outer join may leave out||a condition on a table that an outer join may leave out"},
 	{"a AS one JOIN a AS two ON one.id = two.x", "a column of another table that isn't in its key|"},
 	{"a JOIN b ON a.id = b.a_id AND random() < 2", "a function or subquery over other tables|a function or subquery over other tables"},
-	{"a JOIN b ON a.id = b.a_id WHERE EXISTS (SELECT 1 FROM c)",
+	{"a JOIN b ON a.id = b.a_id WHERE EXISTS (SELECT 1 FROM c)", "a column of another table that isn't in its key|"},
+	{"a JOIN b ON a.id = b.a_id WHERE EXISTS (SELECT 1 FROM c WHERE c.id = a.x) AND b.z = 1", "a column of another table that isn't in its key|"},
+	{"a JOIN b ON a.id = b.a_id AND a.x IN (SELECT a_id FROM b AS other)", "a function or subquery over other tables|a function or subquery over other tables"},
+	{"a JOIN b ON a.id = b.a_id AND a.x IN (SELECT o.a_id FROM b AS o WHERE o.z = b.z)", "a column of another table that isn't in its key|a subquery"},
+	{"a JOIN b ON a.id = b.a_id AND a.x IN (SELECT a.n FROM c AS a)",
 		"a function or subquery over other tables|a function or subquery over other tables"},
-	{"a JOIN secured s ON a.id = s.a_id", "a column of another table that isn't in its key|row security"},
+	{"a JOIN b ON a.id = b.a_id AND a.x IN (SELECT c.n FROM c LIMIT 1)", "a column of another table that isn't in its key|a function or subquery over other tables"},
+	{"a JOIN b ON a.id = b.a_id AND a.x IN (SELECT abs(c.n) FROM c)", "a column of another table that isn't in its key|a function or subquery over other tables"},
+	{"a JOIN b ON a.id = b.a_id AND a.x IN (SELECT s.id FROM secured s)", "a column of another table that isn't in its key|a function or subquery over other tables"},
+	{"a JOIN b ON a.id = b.a_id AND a.x IN (SELECT v.id FROM viewed v)", "a column of another table that isn't in its key|a function or subquery over other tables"},
+	{"a JOIN b ON a.id = b.a_id AND a.x::numeric(3) = 1", "a column of another table that isn't in its key|"},
 }
 
 // TestJoined: beside the other tables' rows of a row of the result, what satisfies a table's condition is in the result,
@@ -89,46 +105,151 @@ func TestJoined(t *testing.T) {
 				continue
 			}
 			for _, side := range sides {
-				if side.Form == nil {
-					continue
-				}
-				wanted := []string{keyText(side.Form.Table.Name, side.Name)}
-				for _, outer := range side.Form.Outer {
-					wanted = append(wanted, outer.Name+"."+outer.Column.Name+"::text")
-				}
-				beside := map[string]map[string]bool{} // keys of the table, by the values of the others
-				if !side.Form.Given {
-					beside[""] = map[string]bool{}
-				}
-				for _, row := range rows(t, conn, "SELECT DISTINCT "+strings.Join(wanted, ", ")+" FROM "+one.from) {
-					others := strings.Join(row[1:], ",")
-					if strings.Contains(","+others+",", ",,") && len(row) > 1 {
-						continue // the row beside it is missing
-					}
-					if beside[others] == nil {
-						beside[others] = map[string]bool{}
-					}
-					beside[others][row[0]] = true
-				}
-				for others, found := range beside {
-					with := condition.Arguments{Outer: strings.Split(others, ",")}
-					its, err := side.Form.Bind(with)
-					if err != nil {
-						t.Fatalf("%s: %v", one.from, err)
-					}
-					for _, version := range tables[side.Form.Table.Name] {
-						key := version[0]
-						if side.Form.Table.Name == "c" {
-							key += "/" + version[1]
-						}
-						if got := its.Holds(row(version...)); (got == condition.Yes) != found[key] {
-							t.Errorf("%s: %v of %s beside %s is %v", one.from, its, key, others, got)
-						}
-					}
+				if side.Form != nil {
+					compareSide(t, conn, one.from, side, tables)
 				}
 			}
 		}
 	}
+}
+
+// compareSide compares what a join asks of one of its tables with what is in its result.
+func compareSide(t *testing.T, conn *pgconn.PgConn, from string, side condition.Side, tables map[string][][]string) (compared int) {
+	t.Helper()
+	found, with := map[string]bool{}, condition.Arguments{Beside: map[string][]record.Key{}}
+	for _, row := range rows(t, conn, "SELECT DISTINCT "+keyText(side.Form.Table.Name, side.Name)+" FROM "+from) {
+		found[row[0]] = true
+	}
+	with.HasRows = len(found) > 0
+	isBeside := with.HasRows || !side.Form.Given
+	for _, outer := range side.Form.Outer {
+		if with.Beside[outer.Name] != nil {
+			continue
+		}
+		key := keyText(outer.Table.Name, outer.Name)
+		for _, row := range rows(t, conn, "SELECT DISTINCT "+key+" FROM "+from) {
+			if row[0] == "" { // an outer join found none
+				continue
+			}
+			with.Beside[outer.Name] = append(with.Beside[outer.Name], record.Key(strings.ReplaceAll(row[0], "/", "\x00")))
+		}
+		isBeside = isBeside && with.Beside[outer.Name] != nil
+	}
+	its, err := side.Form.Bind(with)
+	if !isBeside {
+		if err == nil || err.Error() != "a join of no rows, beside which others could stand" {
+			t.Errorf("%s: %v", from, err)
+		}
+		return 0
+	}
+	if err != nil {
+		t.Fatalf("%s: %v", from, err)
+	}
+	for _, version := range tables[side.Form.Table.Name] {
+		key := version[0]
+		if side.Form.Table.Name == "c" {
+			key += "/" + version[1]
+		}
+		if got := its.Holds(row(version...)); (got == condition.Yes) != found[key] {
+			t.Errorf("%s: %v of %s is %v", from, its, key, got)
+		}
+		compared++
+	}
+	return compared
+}
+
+var joins = flag.Int("joins", 120, "random joins that are compared")
+
+// TestRandomJoins: the same of joins that are put together by chance.
+func TestRandomJoins(t *testing.T) {
+	conn, all := open(t, "random_joins", joinsSchema)
+	r := rand.New(rand.NewSource(time.Now().UnixNano()))
+	compared, refused := 0, map[string]int{}
+	for round := 0; round < *joins; round++ {
+		if round%20 == 0 {
+			rows(t, conn, "TRUNCATE a, b, c")
+		}
+		tables := fillJoined(t, conn, r, round%20 == 0)
+		from := randomJoin(r)
+		text := "SELECT * FROM " + from
+		stmt, err := parsed(t, text)
+		if err != nil {
+			t.Fatal(err)
+		}
+		sides, err := condition.Joined(stmt, text, all)
+		if err != nil {
+			t.Fatalf("%s: %v", from, err)
+		}
+		for _, side := range sides {
+			if side.Form == nil {
+				refused[side.Why.Error()]++
+				continue
+			}
+			compared += compareSide(t, conn, from, side, tables)
+		}
+	}
+	if t.Logf("%d evaluations, refused: %v", compared, refused); compared < *joins/2 {
+		t.Errorf("%d evaluations, refused: %v", compared, refused)
+	}
+}
+
+// fillJoined fills the tables, or reads them.
+func fillJoined(t *testing.T, conn *pgconn.PgConn, r *rand.Rand, fresh bool) map[string][][]string {
+	value := func() string {
+		if r.Intn(6) == 0 {
+			return "NULL"
+		}
+		return fmt.Sprint(r.Intn(4))
+	}
+	for i := 0; i < 4 && fresh; i++ {
+		rows(t, conn, fmt.Sprintf("INSERT INTO a VALUES (%d, %s, 'x')", i, value()))
+		rows(t, conn, fmt.Sprintf("INSERT INTO b VALUES (%d, %s, %s, 'x')", i, value(), value()))
+		rows(t, conn, fmt.Sprintf("INSERT INTO c VALUES (%d, %d, %s)", r.Intn(4), i, value()))
+	}
+	tables := map[string][][]string{}
+	for name, columns := range map[string]string{"a": "id, x, t", "b": "id, a_id, z, t", "c": "id, n, z"} {
+		tables[name] = rows(t, conn, "SELECT "+columns+" FROM "+name)
+		for _, its := range tables[name] {
+			for i := range its {
+				if its[i] == "" {
+					its[i] = "NULL"
+				}
+			}
+		}
+	}
+	return tables
+}
+
+// randomJoin puts a FROM and a WHERE together.
+func randomJoin(r *rand.Rand) string {
+	columns := map[string][]string{"a": {"a.id", "a.x"}, "b": {"b.id", "b.a_id", "b.z"}, "c": {"c.id", "c.n", "c.z"}}
+	pick := func(from []string) string { return from[r.Intn(len(from))] }
+	names := []string{"a", "b", "c"}
+	r.Shuffle(3, func(i, k int) { names[i], names[k] = names[k], names[i] })
+	names = names[:2+r.Intn(2)]
+	test := func(those []string) string {
+		one := pick(columns[pick(those)])
+		switch r.Intn(5) {
+		case 0:
+			return one + pick([]string{" = ", " < ", " <> "}) + fmt.Sprint(r.Intn(4))
+		case 1:
+			return one + pick([]string{" IS NULL", " IS NOT NULL", " IN (0, 1, 3)"})
+		case 2:
+			return "(" + one + " = 1 OR " + pick(columns[pick(those)]) + pick([]string{" = ", " > "}) + pick(columns[pick(those)]) + ")"
+		}
+		return one + pick([]string{" = ", " = ", " <= "}) + pick(columns[pick(those)])
+	}
+	from := names[0]
+	for i := 1; i < len(names); i++ {
+		from += pick([]string{" JOIN ", " JOIN ", " LEFT JOIN "}) + names[i] + " ON " + test(names[:i+1])
+		if r.Intn(2) == 0 {
+			from += " AND " + test(names[:i+1])
+		}
+	}
+	for i, word := 0, " WHERE "; i < r.Intn(4); i, word = i+1, " AND " {
+		from += word + test(names)
+	}
+	return from
 }
 
 func keyText(table, name string) string {
@@ -149,6 +270,9 @@ func TestJoinsRefused(t *testing.T) {
 		"SELECT * FROM a, (SELECT 1) s":                              "a join that isn't followed",
 		"SELECT * FROM a, LATERAL (SELECT a.x) s":                    "a join that isn't followed",
 		"SELECT * FROM (a JOIN b USING (id)) AS j, c":                "a join that isn't followed",
+		"SELECT * FROM a, secured":                                   "row security",
+		"SELECT * FROM a, viewed":                                    "unknown table",
+		"SELECT * FROM a, b FOR UPDATE":                              "FOR UPDATE of several tables",
 		"SELECT * FROM a, nowhere":                                   "unknown table",
 		"SELECT * FROM a, public.a":                                  "two tables with the same name",
 		"SELECT * FROM a, b FOR UPDATE SKIP LOCKED":                  "SKIP LOCKED",

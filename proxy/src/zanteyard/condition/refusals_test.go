@@ -309,7 +309,7 @@ func TestDrops(t *testing.T) {
 		"SELECT a FROM r FETCH FIRST ROW ONLY":                "LIMIT or OFFSET",
 		"SELECT DISTINCT a FROM r":                            "",
 		"SELECT DISTINCT ON (a) b FROM r":                     "DISTINCT ON",
-		"SELECT a FROM r GROUP BY a HAVING count(*) > 1":      "HAVING",
+		"SELECT a FROM r GROUP BY a HAVING count(*) > 1":      "",
 		"SELECT sum(a) FROM r WHERE b = 'x'":                  "",
 		"SELECT generate_series(1, a) FROM r":                 "a function that returns any number of rows",
 		"SELECT a FROM r ORDER BY generate_series(1, a)":      "a function that returns any number of rows",

@@ -167,10 +167,15 @@ func (c *Cache) find(state *cached, s *scanner, text string, apart bool) *Plan {
 	return p
 }
 
-// follows remembers the table that a plan asks by a condition.
+// follows remembers the tables that a plan asks by a condition.
 func (c *Cache) follows(p *Plan) {
-	if p.follow != nil {
-		c.followed.Store(record.Relation(p.follow.form.Table.Root), true)
+	if p.follow == nil {
+		return
+	}
+	for i := range p.follow.sides {
+		if its := p.follow.sides[i].form; its != nil {
+			c.followed.Store(record.Relation(its.Table.Root), true)
+		}
 	}
 }
 

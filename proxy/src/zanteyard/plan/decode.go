@@ -15,6 +15,57 @@ func (p *Plan) Decode(values [][]byte, binary bool) ([]record.Read, error) {
 	return p.AppendReads(nil, values, binary)
 }
 
+// Each calls take with the rows of each source that one row of a result was made from, and whether an outer join left one
+// out. It returns false if some can't be read.
+func (p *Plan) Each(values [][]byte, isBinary bool, take func(source int, its []record.Read, missing bool)) bool {
+	if len(values) != p.Hidden() {
+		return false
+	}
+	if p.Copied {
+		_, lists, ok := p.copiedIn(values[0], isBinary)
+		for i := range lists {
+			ok = ok && p.Sources[i].eachListed(i, lists[i], take)
+		}
+		return ok
+	}
+	at := p.Hidden()
+	for i := range p.Sources {
+		at -= p.Sources[i].Hidden()
+	}
+	var reads []record.Read
+	for i := range p.Sources {
+		source := &p.Sources[i]
+		group := values[at : at+source.Hidden()]
+		at += source.Hidden()
+		switch {
+		case source.Listed:
+			if list, ok := raw(group[0], isBinary); !ok || !source.eachListed(i, list, take) {
+				return false
+			}
+		case group[0] == nil && !source.Nullable:
+			return false
+		case group[0] == nil:
+			take(i, nil, true)
+		default:
+			read, err := source.decode(group, isBinary)
+			if err != nil {
+				return false
+			}
+			take(i, append(reads[:0], read), false)
+		}
+	}
+	return true
+}
+
+// eachListed does the same with a list. If an outer join may have left some rows out, it isn't known whether it did.
+func (s *Source) eachListed(source int, list []byte, take func(source int, its []record.Read, missing bool)) bool {
+	reads, err := s.appendList(nil, list)
+	if err == nil {
+		take(source, reads, s.Nullable)
+	}
+	return err == nil
+}
+
 // AppendReads is Decode into existing memory.
 func (p *Plan) AppendReads(to []record.Read, values [][]byte, binary bool) ([]record.Read, error) {
 	if len(values) != p.Hidden() {

@@ -10,13 +10,25 @@ import (
 	"zanteyard/record"
 )
 
-// follow is what a SELECT, an UPDATE or a DELETE asks its only table for, if that is a condition that is followed.
+// follow is what a SELECT, an UPDATE or a DELETE asks its tables for, if that are conditions that are followed.
 type follow struct {
-	form      *condition.Form
+	sides   []side
+	joins   bool // it has several tables
+	limited bool
+	limit   askedPart
+}
+
+// side is what is asked of one of them.
+type side struct {
+	form      *condition.Form // nil if it isn't followed
+	why       string
 	columns   record.Identity
 	constants []int // the token of each of the form's constants: a minus, for a negative number
-	limited   bool
-	limit     askedPart
+	// Of several tables: which of the plan's sources it is, or -1, and the name by which the statement knows it. whole means
+	// that beside the others' rows it is asked for by its whole key.
+	source int
+	name   string
+	whole  bool
 }
 
 // Why what a SELECT asks for isn't followed.
@@ -65,26 +77,40 @@ func (m *maker) asksToWrite(p *Plan, name string, body node, others string) {
 
 func (m *maker) follow(p *Plan, body node) (*follow, string) {
 	switch {
-	case len(p.Unseen) > 0:
-		return nil, p.Unseen[0].Reason
 	case p.MayWriteUnseen:
 		return nil, writesToo
-	case len(p.Sources) != 1 || len(body.list("fromClause")) != 1:
-		return nil, severalTables
+	case len(p.Unseen) > 0 && (len(p.Sources) == 0 || !isJoin(body)):
+		return nil, p.Unseen[0].Reason
 	case kindFound(body["fromClause"], "RangeSubselect"):
 		return nil, aSubqueryInFrom
-	case body.has("groupClause") && !p.Counts: // otherwise each group lists its rows
+	case body.has("groupClause") && !p.Lists(): // otherwise each group lists its rows
 		return nil, "GROUP BY"
-	case body.has("distinctClause") && !p.Counts: // otherwise each of its rows lists those that are equal
+	case body.has("distinctClause") && !p.Lists(): // otherwise each of its rows lists those that are equal
 		return nil, "DISTINCT"
-	case body.has("havingClause"):
+	case body.has("havingClause") && !p.Copied: // otherwise the first group lists those of all
 		return nil, "HAVING"
 	case body.has("limitOffset"):
 		return nil, "OFFSET"
 	case m.setReturning(map[string]any(body)):
 		return nil, aSetFunction
 	}
+	if isJoin(body) {
+		return m.followJoin(p, body)
+	}
+	if len(p.Sources) != 1 {
+		return nil, severalTables
+	}
 	return m.followBy("SelectStmt", body)
+}
+
+// isJoin reports whether a SELECT has several tables.
+func isJoin(body node) bool {
+	from := body.list("fromClause")
+	if len(from) != 1 {
+		return true
+	}
+	kind, _ := only(from[0])
+	return kind == "JoinExpr"
 }
 
 func (m *maker) followBy(name string, body node) (*follow, string) {
@@ -92,65 +118,191 @@ func (m *maker) followBy(name string, body node) (*follow, string) {
 	if err != nil {
 		return nil, err.Error()
 	}
-	f := &follow{form: form, columns: form.Table.ColumnsIdentity, limited: body.has("limitCount")}
-	if form.Drops != "" && !f.limited {
-		return nil, form.Drops
+	f := &follow{limited: body.has("limitCount")}
+	its, reason := m.side(form, f.limited)
+	if reason != "" {
+		return nil, reason
 	}
-	if f.columns == 0 {
-		return nil, "unknown table"
-	}
-	for _, at := range form.Constants {
-		token := m.tokenAt(at)
-		if token < 0 {
-			return nil, "a constant in an unknown form"
-		}
-		f.constants = append(f.constants, token)
-	}
-	if f.limited {
-		var ok bool
-		if f.limit, ok = m.valuePart(0, body["limitCount"]); !ok || f.limit.negative {
-			return nil, unclearLimit
-		}
+	f.sides = []side{its}
+	if reason := m.limits(f, body); reason != "" {
+		return nil, reason
 	}
 	return f, ""
 }
 
-// Follows reports whether what a statement asks its table for is followed: Asks returns it.
+// side finds the constants of a form.
+func (m *maker) side(form *condition.Form, limited bool) (its side, reason string) {
+	its = side{form: form, columns: form.Table.ColumnsIdentity}
+	if form.Drops != "" && !limited {
+		return side{}, form.Drops
+	}
+	if its.columns == 0 {
+		return side{}, "unknown table"
+	}
+	for _, at := range form.Constants {
+		token := m.tokenAt(at)
+		if token < 0 {
+			return side{}, "a constant in an unknown form"
+		}
+		its.constants = append(its.constants, token)
+	}
+	return its, ""
+}
+
+func (m *maker) limits(f *follow, body node) (reason string) {
+	if f.limited {
+		var ok bool
+		if f.limit, ok = m.valuePart(0, body["limitCount"]); !ok || f.limit.negative {
+			return unclearLimit
+		}
+	}
+	return ""
+}
+
+// followJoin decides what a SELECT over several tables asks each of them for.
+func (m *maker) followJoin(p *Plan, body node) (*follow, string) {
+	tables, err := condition.Joined(map[string]any{"SelectStmt": map[string]any(body)}, m.joined, m.catalog)
+	if err != nil {
+		return nil, err.Error()
+	}
+	f, follows := &follow{joins: true, limited: body.has("limitCount")}, false
+	for _, one := range tables {
+		its := side{}
+		if one.Whole && one.Nullable && p.sourceOf(one.Name) < 0 && p.onlySkips() {
+			continue // the result doesn't depend on it
+		}
+		if one.Form == nil {
+			its.why = one.Why.Error()
+		} else if its, its.why = m.side(one.Form, f.limited); its.why == "" {
+			its.why = p.shows(one)
+		}
+		if its.name, its.whole, its.source = one.Name, one.Whole, p.sourceOf(one.Name); its.why != "" {
+			its.form, its.constants = nil, nil
+		}
+		f.sides = append(f.sides, its)
+		follows = follows || its.form != nil || its.whole && its.source >= 0
+	}
+	if !follows {
+		return nil, f.sides[0].why
+	}
+	if reason := m.limits(f, body); reason != "" {
+		return nil, reason
+	}
+	return f, ""
+}
+
+// shows says why the result doesn't show the rows of a table, or of one beside whose rows it is asked.
+func (p *Plan) shows(of condition.Side) string {
+	names := []string{of.Name}
+	for _, outer := range of.Form.Outer {
+		names = append(names, outer.Name)
+	}
+	for _, name := range names {
+		if p.sourceOf(name) >= 0 {
+			continue
+		}
+		if len(p.Unseen) > 0 {
+			return p.Unseen[0].Reason
+		}
+		return severalTables
+	}
+	return ""
+}
+
+// onlySkips reports whether a plan leaves out nothing but joins whose tables aren't used.
+func (p *Plan) onlySkips() bool {
+	return len(p.Unseen) == 1 && p.Unseen[0].Reason == aSkippedJoin
+}
+
+// sourceOf returns which of its sources a plan knows by a name, or -1.
+func (p *Plan) sourceOf(name string) int {
+	for i := range p.Sources {
+		if p.Sources[i].Name == name {
+			return i
+		}
+	}
+	return -1
+}
+
+// Follows reports whether what a statement asks its tables for is followed: Asks returns it.
 func (p *Plan) Follows() bool { return p.follow != nil }
+
+// Joins reports whether it asks several tables. Then what it asks for depends on its result.
+func (p *Plan) Joins() bool { return p.follow != nil && p.follow.joins }
 
 // Question is what a statement asks a table for.
 type Question struct {
 	By       *condition.Condition
 	Identity record.Identity // of the table's key
 	Columns  record.Identity // and of its columns
-	// Most is how many rows it returns at most: if it returned as many, others may be missing of which the condition holds.
-	Most uint64
+	Source   int             // which of the plan's sources it is, if there are several tables
+	Why      string          // why it isn't followed
 }
 
-// Asks returns what a SELECT asks for, by the constants of its text and Bind's parameters. The error says why it isn't
-// followed.
-func (p *Plan) Asks(text string, tokens Tokens, with condition.Arguments) (Question, error) {
+// Most returns how many rows a statement returns at most: if it returned as many, others may be missing of which its
+// condition holds.
+func (p *Plan) Most(text string, tokens Tokens, with condition.Arguments) (uint64, error) {
 	f := p.follow
-	with.Constants = make([]string, len(f.constants))
-	for i := range f.constants {
-		with.Constants[i] = text[tokens.follow[i].from:tokens.follow[i].to]
+	if !f.limited {
+		return math.MaxUint64, nil
+	}
+	at := span{}
+	if f.limit.parameter == 0 {
+		at = tokens.follow[len(tokens.follow)-1]
+	}
+	if most, ok := f.limit.rows(text, at, with); ok {
+		return most, nil
+	}
+	return 0, condition.Refusal(unclearLimit)
+}
+
+// Asks returns what a statement asks its only table for, by the constants of its text and Bind's parameters.
+func (p *Plan) Asks(text string, tokens Tokens, with condition.Arguments) Question {
+	return p.follow.sides[0].asks(text, tokens, 0, with)
+}
+
+// Found are the rows of one source in a result: their keys, each once, and whether an outer join left some out.
+type Found struct {
+	Keys    []record.Key
+	Missing bool
+}
+
+// AsksJoined returns what a statement asks several tables for, by its result. What it asks a table for by its whole key isn't
+// returned: no other row can satisfy it.
+func (p *Plan) AsksJoined(text string, tokens Tokens, with condition.Arguments, found []Found) []Question {
+	with.Beside = map[string][]record.Key{}
+	for i := range found {
+		with.Beside[p.Sources[i].Name] = found[i].Keys
+		with.HasRows = with.HasRows || len(found[i].Keys) > 0
+	}
+	var all []Question
+	at := 0
+	for i := range p.follow.sides {
+		its := &p.follow.sides[i]
+		if !its.whole || its.source < 0 || found[its.source].Missing {
+			all = append(all, its.asks(text, tokens, at, with))
+		}
+		at += len(its.constants)
+	}
+	return all
+}
+
+// asks binds one side, whose constants begin at a place among those that are followed.
+func (s *side) asks(text string, tokens Tokens, at int, with condition.Arguments) Question {
+	if s.form == nil {
+		return Question{Why: s.why}
+	}
+	with.Constants = make([]string, len(s.constants))
+	for i := range s.constants {
+		with.Constants[i] = text[tokens.follow[at+i].from:tokens.follow[at+i].to]
 	}
 	with.Left = tokens.left
-	q := Question{Identity: f.form.Table.Identity, Columns: f.columns, Most: math.MaxUint64}
-	if f.limited {
-		at := span{}
-		if f.limit.parameter == 0 {
-			at = tokens.follow[len(f.constants)]
-		}
-		most, ok := f.limit.rows(text, at, with)
-		if !ok {
-			return q, condition.Refusal(unclearLimit)
-		}
-		q.Most = most
-	}
+	q := Question{Identity: s.form.Table.Identity, Columns: s.columns, Source: s.source}
 	var err error
-	q.By, err = f.form.Bind(with)
-	return q, err
+	if q.By, err = s.form.Bind(with); err != nil {
+		q.Why = err.Error()
+	}
+	return q
 }
 
 // rows returns the number of rows that LIMIT allows. In binary a number is read only if the client has declared that it is
@@ -183,13 +335,15 @@ func (a askedPart) rows(text string, at span, with condition.Arguments) (uint64,
 
 // places returns where a text has the constants that the condition and LIMIT depend on.
 func (f *follow) places(text string, tokens []token) []span {
-	all := make([]span, 0, len(f.constants)+1)
-	for _, at := range f.constants {
-		its := span{tokens[at].start, tokens[at].last}
-		if text[tokens[at].start] == '-' && at+1 < len(tokens) {
-			its.to = tokens[at+1].last
+	var all []span
+	for i := range f.sides {
+		for _, at := range f.sides[i].constants {
+			its := span{tokens[at].start, tokens[at].last}
+			if text[tokens[at].start] == '-' && at+1 < len(tokens) {
+				its.to = tokens[at+1].last
+			}
+			all = append(all, its)
 		}
-		all = append(all, its)
 	}
 	if f.limited && f.limit.token >= 0 {
 		all = append(all, span{tokens[f.limit.token].start, tokens[f.limit.token].end})

@@ -4,6 +4,7 @@ import (
 	"context"
 	"fmt"
 	"math"
+	"strings"
 	"testing"
 	"time"
 
@@ -66,7 +67,7 @@ func TestFollowed(t *testing.T) {
 		{"", "SELECT a, count(*) FROM r GROUP BY a ORDER BY a LIMIT 3", "r, most 3"},
 		{"", "SELECT a FROM r GROUP BY a HAVING count(*) > 1 ORDER BY a", "HAVING"}, {"", "SELECT a FROM r GROUP BY id LIMIT 3", "GROUP BY"}, {"", "SELECT generate_series(1, a) FROM r LIMIT 3", aSetFunction},
 		{"", "SELECT count(*) FROM r", "r"}, {"", "SELECT sum(a) FROM r WHERE a > 5", "r WHERE a > 5"}, {"", "SELECT DISTINCT a FROM r", "DISTINCT"},
-		{"", "SELECT r.id FROM r, other WHERE r.a = other.a", "several tables"}, {"", "SELECT * FROM hidden", "no primary key"},
+		{"", "SELECT r.id FROM r, other WHERE r.a = other.a", "a column of another table that isn't in its key"}, {"", "SELECT * FROM hidden", "no primary key"},
 		{"", "SELECT * FROM secret", "row security"}, {"", "SELECT * FROM ONLY r", "ONLY"},
 		{"", "SELECT * FROM r TABLESAMPLE system (10)", "TABLESAMPLE"}, {"", "SELECT * FROM r FOR UPDATE SKIP LOCKED", "SKIP LOCKED"},
 		{"", "SELECT * FROM r WHERE a IN (SELECT a FROM other)", "a subquery"}, {"", "SELECT id FROM r UNION SELECT id FROM other", "UNION, INTERSECT or EXCEPT"},
@@ -83,16 +84,8 @@ func TestFollowed(t *testing.T) {
 		p, tokens := cache.Plan(x.text)
 		got := p.NotFollowed
 		if p.Follows() {
-			q, err := p.Asks(x.text, tokens, condition.Arguments{Parameters: [][]byte{[]byte("11"), []byte("12")}})
-			switch {
-			case err != nil:
-				got = err.Error()
-			case q.Most != math.MaxUint64:
-				got = fmt.Sprintf("%v, most %d", q.By, q.Most)
-			default:
-				got = q.By.String()
-			}
-			if err == nil && (q.Columns == 0 || q.Columns != table.ColumnsIdentity || q.Identity != table.Identity) {
+			q, its := asked(p, x.text, tokens, condition.Arguments{Parameters: [][]byte{[]byte("11"), []byte("12")}})
+			if got = its; q.Why == "" && (q.Columns == 0 || q.Columns != table.ColumnsIdentity || q.Identity != table.Identity) {
 				t.Errorf("%s: %+v", x.text, q)
 			}
 		}
@@ -110,6 +103,101 @@ func TestFollowed(t *testing.T) {
 			t.Errorf("%s: %+v", text, p)
 		}
 	}
+}
+
+// asked returns what a statement asks its only table for, also in words.
+func asked(p *Plan, text string, tokens Tokens, with condition.Arguments) (Question, string) {
+	most, err := p.Most(text, tokens, with)
+	if err != nil {
+		return Question{Why: err.Error()}, err.Error()
+	}
+	q := p.Asks(text, tokens, with)
+	switch {
+	case q.Why != "":
+		return q, q.Why
+	case most != math.MaxUint64:
+		return q, fmt.Sprintf("%v, most %d", q.By, most)
+	}
+	return q, q.By.String()
+}
+
+// TestFollowsJoins: each table of a join is asked for what could stand beside the others' rows in the result.
+func TestFollowsJoins(t *testing.T) {
+	connection := connect(t, fmt.Sprint("follows_joins_", time.Now().UnixNano()), `CREATE TABLE project (id int PRIMARY KEY, open bool);
+		CREATE TABLE person (id int PRIMARY KEY, name text); CREATE TABLE secret (id int PRIMARY KEY);
+		ALTER TABLE secret ENABLE ROW LEVEL SECURITY; CREATE TABLE keyless (id int);
+		CREATE TABLE issue (id int PRIMARY KEY, project_id int, author_id int, n int)`)
+	known, err := catalog.Load(ctx(), cluster.Query(context.Background(), connection), catalog.WithColumns)
+	if err != nil {
+		t.Fatal(err)
+	}
+	cache := NewCache(known)
+	const issues, notKey = "FROM issue i JOIN project p ON p.id = i.project_id ", "a column of another table that isn't in its key"
+	for _, x := range []struct{ text, want string }{
+		{"SELECT i.n " + issues + "WHERE i.n > 5 AND p.open", "issue WHERE n > 5 AND project_id IN (7, 8): 1,2"},
+		{"SELECT i.n " + issues + "WHERE i.n > $1 LIMIT $2", "issue WHERE n > 11 AND project_id IN (7, 8): 1,2, most 12"},
+		{"SELECT i.n " + issues + "JOIN person a ON a.id = i.author_id WHERE i.n IN ($1, 3)",
+			"issue WHERE n IN (11, 3) AND project_id IN (7, 8) AND author_id IN (9): 1,2"},
+		{"SELECT i.n " + issues + "LEFT JOIN person a ON a.id = i.author_id WHERE i.n > 5 AND p.open",
+			"issue WHERE n > 5 AND project_id IN (7, 8): 1,2"},
+		{"SELECT i.n, a.name " + issues + "LEFT JOIN person a ON a.id = i.author_id", "issue WHERE project_id IN (7, 8): 1,2"},
+		{"SELECT p.open, i.n FROM project p LEFT JOIN issue i ON i.project_id = p.id WHERE p.open",
+			"project WHERE open: 7,8; issue WHERE project_id IN (7, 8): 1,2"},
+		{"SELECT i.n FROM issue i, project p WHERE p.open AND i.n > 3", "issue WHERE n > 3: 1,2; project WHERE open: 7,8"},
+		{"SELECT count(*) FROM issue i JOIN project p ON p.id = i.project_id WHERE i.n > 5", "issue WHERE n > 5 AND project_id IN (7, 8): 1,2"},
+		{"SELECT i.n " + issues + "WHERE i.n = i.author_id", "not: a comparison of two columns"},
+		{"SELECT i.n " + issues + "FOR UPDATE", "FOR UPDATE of several tables"},
+		{"SELECT i.n " + issues + "WHERE lower(p.id::text) = 'x'", "not: a function or subquery over other tables"},
+		{"SELECT i.n FROM issue i JOIN secret s ON s.id = i.project_id", "row security"},
+		{"SELECT i.n FROM issue i JOIN keyless k ON k.id = i.project_id", notKey},
+		{"SELECT i.n FROM issue i NATURAL JOIN project p", "a join that isn't followed"},
+		{"SELECT i.n FROM issue i, (SELECT 1) AS s", "a subquery in FROM"},
+		{"SELECT DISTINCT i.n " + issues, "DISTINCT"}, {"SELECT i.n " + issues + "OFFSET 3", "OFFSET"},
+	} {
+		p, tokens := cache.Plan(x.text)
+		got := p.NotFollowed
+		if p.Follows() {
+			got = joinAsked(t, p, x.text, tokens)
+		}
+		if got != x.want {
+			t.Errorf("%s: %q, wanted %q", x.text, got, x.want)
+		}
+	}
+}
+
+// joinAsked says what a join asks each of its tables for, if some rows are in its result.
+func joinAsked(t *testing.T, p *Plan, text string, tokens Tokens) string {
+	t.Helper()
+	if !p.Joins() {
+		t.Fatalf("%s: one table", text)
+	}
+	rows := map[string][]record.Key{"i": {"1", "2"}, "p": {"7", "8"}, "a": {"9"}, "s": {"5"}}
+	with := condition.Arguments{Parameters: [][]byte{[]byte("11"), []byte("12")}}
+	found := make([]Found, len(p.Sources))
+	for i := range found {
+		found[i].Keys = rows[p.Sources[i].Name]
+	}
+	var all []string
+	for _, q := range p.AsksJoined(text, tokens, with, found) {
+		if q.Why != "" {
+			all = append(all, "not: "+q.Why)
+			continue
+		}
+		its := q.By.String() + ": "
+		for i, key := range found[q.Source].Keys {
+			if i > 0 {
+				its += ","
+			}
+			its += string(key)
+		}
+		all = append(all, its)
+	}
+	if most, err := p.Most(text, tokens, with); err != nil {
+		t.Error(err)
+	} else if most != math.MaxUint64 {
+		all = append(all, fmt.Sprint("most ", most))
+	}
+	return strings.ReplaceAll(strings.Join(all, "; "), "; most", ", most")
 }
 
 // TestFollowedParameters: a parameter has the type that the server gives it, or the condition isn't followed: also if the
@@ -153,11 +241,7 @@ func TestFollowedParameters(t *testing.T) {
 		p, tokens := cache.Plan(x.text)
 		got := p.NotFollowed
 		if p.Follows() {
-			if q, err := p.Asks(x.text, tokens, with); err != nil {
-				got = err.Error()
-			} else if got = q.By.String(); q.Most != math.MaxUint64 {
-				got += fmt.Sprint(", most ", q.Most)
-			}
+			_, got = asked(p, x.text, tokens, with)
 		}
 		if got != x.want {
 			t.Errorf("%s with %q: %q, wanted %q", x.text, x.values, got, x.want)

@@ -177,6 +177,8 @@ func (m *maker) newItem(r node, t *catalog.Table, at place, sampled bool) *item 
 // ByIndex is why a table isn't seen of which an index has all that a statement asks for.
 const ByIndex = "an index may answer without the table"
 
+const aSkippedJoin = "a join that the server may skip"
+
 // groups returns the tables that can be seen, and counts the others.
 func (f *fromClause) groups() (seen []*item) {
 	named := map[string]int{}
@@ -193,7 +195,7 @@ func (f *fromClause) groups() (seen []*item) {
 		case f.unsorted && !f.grouped(it):
 			f.plan.leaveOut("GROUP BY without an ORDER BY of its columns")
 		case f.removable(it):
-			f.plan.leaveOut("a join that the server may skip")
+			f.plan.leaveOut(aSkippedJoin)
 		case looks && (f.taken != "" || f.unlisted):
 			f.plan.leaveOut(ByIndex)
 		default:
@@ -231,7 +233,7 @@ func (it *item) source() Source {
 	}
 	source := Source{
 		Relation: record.Relation(it.table.OID), Identity: it.table.Identity, Converts: it.converts, Types: types,
-		Nullable: it.nullable, Listed: it.listed,
+		Nullable: it.nullable, Listed: it.listed, Name: it.name,
 	}
 	if it.listed || it.typed {
 		source.RowType = it.table.RowType

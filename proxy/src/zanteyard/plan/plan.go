@@ -65,6 +65,7 @@ type Source struct {
 	Identity record.Identity // of the table's key
 	Converts bool            // texts come in the server's encoding, as bytea
 	Types    []uint32        // types of the key's columns in the table, as package catalog resolves them
+	Name     string          // by which the statement knows the table
 	// Nullable means that an outer join may leave the whole group NULL: then no row was read.
 	Nullable bool
 	// Listed means that the group is one column: a list of the table's rows that an aggregate was made of.

@@ -29,9 +29,10 @@ const (
 	mostConditions = 64   // conditions of one transaction
 )
 
-// asking is what a SELECT asks a table for by a condition, and the rows that it got.
+// asking is what a statement asks its tables for by conditions, and the rows that it got.
 type asking struct {
 	plan.Question
+	most  uint64    // rows that it returns
 	from  time.Time // its snapshot is no older
 	rows  uint64
 	found []record.Key
@@ -41,21 +42,92 @@ type asking struct {
 	writes bool
 	done   bool
 	place  int32 // among the transaction's, counted from 1, once it is done
+	joined *joined
+}
+
+// joined is what a statement over several tables needs until its result is known.
+type joined struct {
+	plan   *plan.Plan
+	text   string
+	tokens plan.Tokens
+	with   condition.Arguments
+	found  []plan.Found // of each source
+	known  []map[record.Key]bool
 }
 
 // asksBy returns what a statement that is sent rewritten asks for, nil if no condition is followed.
 func (s *Session) asksBy(st *statement, with condition.Arguments) *asking {
-	if !st.plan.Follows() {
+	p := st.plan
+	if !p.Follows() {
 		return nil
 	}
 	with.Converts, with.Temporary = s.converts(), s.trust.hasTemporary()
 	with.Escapes = st.behind || s.somethingRuns()
-	it := &asking{from: s.sent, writes: st.plan.Kind == plan.Write}
-	var err error
-	if it.Question, err = st.plan.Asks(st.text, st.tokens, with); err != nil {
+	it := &asking{from: s.sent, writes: p.Kind == plan.Write}
+	most, err := p.Most(st.text, st.tokens, with)
+	switch it.most = most; {
+	case err != nil:
 		it.why = err.Error()
+	case p.Joins():
+		with.Parameters = copied(with.Parameters)
+		with.Formats = append([]int16(nil), with.Formats...)
+		with.Types = append([]uint32(nil), with.Types...)
+		it.joined = &joined{plan: p, text: st.text, tokens: st.tokens, with: with, found: make([]plan.Found, len(p.Sources)),
+			known: make([]map[record.Key]bool, len(p.Sources))}
+	default:
+		it.Question = p.Asks(st.text, st.tokens, with)
+		it.why = it.Question.Why
 	}
 	return it
+}
+
+// copied copies parameters, which are in a message.
+func copied(of [][]byte) [][]byte {
+	all := make([][]byte, len(of))
+	for i, one := range of {
+		if one != nil {
+			all[i] = append([]byte{}, one...)
+		}
+	}
+	return all
+}
+
+// gotJoined takes what a row of several tables was made of.
+func (s *Session) gotJoined(a *asking, values [][]byte, isBinary, failed, isWhole bool) {
+	a.rows++
+	j, kept := a.joined, 0
+	switch {
+	case a.why != "":
+		return
+	case failed:
+		a.why = unclearRow
+		return
+	}
+	otherEncoding := !j.plan.Converts() && s.options.Plans != nil && s.converts()
+	ok := isWhole && j.plan.Each(values, isBinary, func(source int, its []record.Read, missing bool) {
+		found := &j.found[source]
+		found.Missing = found.Missing || missing
+		if j.known[source] == nil {
+			j.known[source] = map[record.Key]bool{}
+		}
+		for _, one := range its {
+			failed = failed || otherEncoding && !isASCII(string(one.Key))
+			if !j.known[source][one.Key] {
+				j.known[source][one.Key] = true
+				found.Keys = append(found.Keys, one.Key)
+			}
+		}
+		kept += len(found.Keys)
+	})
+	switch {
+	case !isWhole, kept > mostFound:
+		a.why = tooManyFound
+	case !ok, failed:
+		a.why = unclearRow
+	}
+	if a.why != "" {
+		j.found, j.known = nil, nil
+	}
 }
 
 // asksUnchanged returns what an UPDATE or DELETE asks for that is sent as it is. What its names refer to isn't tried, so it
@@ -108,6 +180,19 @@ func (a *asking) got(reads []record.Read, failed, isWhole bool) {
 	}
 }
 
+// foundAny reports whether it got any row.
+func (a *asking) foundAny() bool {
+	if a.joined == nil {
+		return len(a.found) > 0
+	}
+	for i := range a.joined.found {
+		if len(a.joined.found[i].Keys) > 0 {
+			return true
+		}
+	}
+	return false
+}
+
 // askedBy records what a statement that has ended has asked for. changed says that it has written rows.
 func (s *Session) askedBy(p *plan.Plan, e *expectation, noted *record.Statement, changed bool) {
 	t, a := &s.tx, e.asking
@@ -130,10 +215,13 @@ func (s *Session) askedBy(p *plan.Plan, e *expectation, noted *record.Statement,
 		why = notRewritten
 	case a.why != "":
 		why = a.why
-	case a.rows >= a.Most && !a.writes:
+	case a.rows >= a.most && !a.writes:
 		why = cutOff
-	case p.Lists() && len(a.found) == 0 && !a.shows: // otherwise rows that it lists show that it is made of its plan's table
+	case p.Lists() && !a.shows && !a.foundAny(): // otherwise rows that it lists show that it is made of its plan's tables
 		why = ofNothing
+	}
+	switch {
+	case why != "":
 	case e.replaced:
 		why = maybeAnother
 	case !e.knowsTables():
@@ -147,11 +235,41 @@ func (s *Session) askedBy(p *plan.Plan, e *expectation, noted *record.Statement,
 		return
 	}
 	a.done = true
-	t.Asks = append(t.Asks, record.Ask{Condition: a.By, Identity: a.Identity, Columns: a.Columns, Found: a.found, From: a.from,
-		Wrote: e.wrote || changed, Writes: a.writes})
-	a.place = int32(len(t.Asks))
-	if noted != nil {
-		noted.Ask = len(t.Asks)
+	wrote := e.wrote || changed
+	if a.joined == nil {
+		t.ask(a, a.Question, a.found, wrote)
+	} else {
+		j := a.joined
+		for _, one := range j.plan.AsksJoined(j.text, j.tokens, j.with, j.found) {
+			var found []record.Key
+			if one.Why == "" {
+				found = j.found[one.Source].Keys
+			}
+			t.ask(a, one, found, wrote)
+		}
+		a.joined = nil
+	}
+	if noted != nil && a.place > 0 {
+		noted.Ask = int(a.place)
+	}
+}
+
+// ask keeps what a table was asked for, and the rows that were got of it.
+func (t *transaction) ask(a *asking, of plan.Question, found []record.Key, wrote bool) {
+	switch {
+	case len(t.Asks) > mostConditions:
+		return
+	case len(t.Asks) == mostConditions:
+		of.Why = tooManyAsks
+	}
+	if of.Why != "" {
+		t.Asks = append(t.Asks, record.Ask{Why: of.Why})
+		return
+	}
+	t.Asks = append(t.Asks, record.Ask{Condition: of.By, Identity: of.Identity, Columns: of.Columns, Found: found, From: a.from,
+		Wrote: wrote, Writes: a.writes})
+	if a.place == 0 {
+		a.place = int32(len(t.Asks))
 	}
 }
 

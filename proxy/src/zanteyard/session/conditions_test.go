@@ -42,7 +42,7 @@ func shownAsk(one record.Ask) string {
 	}
 	var found []string
 	for _, key := range one.Found {
-		found = append(found, string(key))
+		found = append(found, strings.ReplaceAll(string(key), "\x00", "/"))
 	}
 	sort.Strings(found) // an UPDATE moves rows
 	text := one.Condition.String() + ": " + strings.Join(found, ",")
@@ -59,7 +59,9 @@ func TestAsks(t *testing.T) {
 	p := throughAsking(t)
 	texts := []string{"UPDATE t SET w = 'z' WHERE v < 20", "DELETE FROM t WHERE v = -7", "SELECT v FROM t WHERE v < 30", "SELECT v FROM t WHERE v < 40 LIMIT 2", "UPDATE t SET w = 'x' WHERE id = 20",
 		"SELECT v FROM t WHERE v < 10 AND id = 3", "SELECT count(*) FROM t WHERE v < 30", "SELECT DISTINCT v FROM t", "SELECT v / 20, sum(v) FROM t WHERE v < 40 GROUP BY v / 20 ORDER BY v / 20",
-		"SELECT v FROM part WHERE v = 6"}
+		"SELECT v FROM part WHERE v = 6", "SELECT t.v, u.v FROM t JOIN u ON u.a = t.id WHERE t.v < 30 AND u.v > 2",
+		"SELECT t.v, u.v FROM t LEFT JOIN u ON u.a = t.id AND u.v > 100 WHERE t.v < 30", "SELECT t.v, u.v FROM t JOIN u ON u.a = t.id WHERE t.v < 0",
+		"SELECT count(*), sum(u.v) FROM t JOIN u ON u.a = t.id WHERE t.v < 30 AND u.v > 2"}
 	for i := 0; i < 2; i++ {
 		p.warm(texts...)
 	}
@@ -104,6 +106,23 @@ func TestAsks(t *testing.T) {
 			want: "t WHERE v < -9: "},
 		{name: "DISTINCT", texts: []string{"SELECT DISTINCT v FROM t WHERE v < 30 ORDER BY v"}, want: "t WHERE v < 30: 1,2"},
 		{name: "a row by its key", texts: []string{"SELECT v FROM t WHERE v < 30 AND id = 1 LIMIT 1"}, want: ""},
+		{name: "a join", texts: []string{"SELECT t.v, u.v FROM t JOIN u ON u.a = t.id WHERE t.v < 30 AND u.v > 2"},
+			want: "u WHERE v > 2 AND a IN (1, 2): 1/b5,1/b9,2/b10,2/b6"},
+		{name: "an outer join", texts: []string{"SELECT t.v, u.v FROM t LEFT JOIN u ON u.a = t.id AND u.v > 100 WHERE t.v < 30"},
+			want: "t WHERE v < 30: 1,2; u WHERE v > 100 AND a IN (1, 2): "},
+		{name: "an outer join of nothing", texts: []string{"SELECT t.v, u.v FROM t LEFT JOIN u ON u.a = t.id AND u.v > 100 WHERE t.v < 0"},
+			want: "t WHERE v < 0: ; not: a join of no rows, beside which others could stand"},
+		{name: "a join of no rows", texts: []string{"SELECT t.v, u.v FROM t JOIN u ON u.a = t.id WHERE t.v < 0"},
+			want: "not: a join of no rows, beside which others could stand"},
+		{name: "an aggregate of a join", texts: []string{"SELECT count(*), sum(u.v) FROM t JOIN u ON u.a = t.id WHERE t.v < 30 AND u.v > 2"},
+			want: "u WHERE v > 2 AND a IN (1, 2): 1/b5,1/b9,2/b10,2/b6"},
+		{name: "one of no rows in a join", texts: []string{"SELECT count(*), sum(u.v) FROM t JOIN u ON u.a = t.id WHERE t.v < 0 AND u.v > 2"},
+			want: "not: an aggregate of no rows, which doesn't show its table"},
+		{name: "a join with parameters", parsed: []pgproto3.FrontendMessage{
+			&pgproto3.Parse{Query: "SELECT t.v, u.v FROM t JOIN u ON u.a = t.id WHERE t.v < $1 AND u.v > $2 LIMIT 10"},
+			&pgproto3.Bind{Parameters: [][]byte{[]byte("30"), []byte("2")}, ResultFormatCodes: []int16{1}}, &pgproto3.Execute{},
+			&pgproto3.Bind{DestinationPortal: "x", Parameters: [][]byte{[]byte("20"), []byte("5")}}, &pgproto3.Execute{Portal: "x"}, &pgproto3.Sync{}},
+			want: "u WHERE v > 2 AND a IN (1, 2): 1/b5,1/b9,2/b10,2/b6; u WHERE v > 5 AND a IN (1): 1/b9"},
 		{name: "a failure", texts: []string{"BEGIN", "SELECT v FROM t WHERE v < 30", "SELECT 1/0", "COMMIT"}, want: "t WHERE v < 30: 1,2"},
 		{name: "several statements", texts: []string{"SELECT v FROM t WHERE v < 30; SELECT v FROM t WHERE v < 20"}, want: "t WHERE v < 30: 1,2; t WHERE v < 20: 1"},
 		{name: "a cursor", texts: []string{"BEGIN", "DECLARE c CURSOR FOR SELECT v FROM t WHERE v < 30", "FETCH ALL FROM c", "COMMIT"},

@@ -29,7 +29,11 @@ func (s *Session) hidden(e *expectation, values [][]byte) {
 	reads = s.comparable(p, reads)
 	counts := p.Kind == plan.Select && len(p.Unseen) == 0
 	isWhole := s.lists(e, values)
-	if e.asking != nil {
+	switch {
+	case e.asking == nil:
+	case e.asking.joined != nil:
+		s.gotJoined(e.asking, values, isBinary, err != nil, isWhole)
+	default:
 		n, lists := p.Aggregated(values, isBinary)
 		if !lists {
 			n = 1

@@ -158,7 +158,7 @@ func (s *Session) sumSelect(p *plan.Plan, e *expectation, reason string, n uint6
 	case p.Copied && n > 0:
 		s.sumCopied(p, e, isFirst, n)
 	case n == 0 && !isCursor && isFirst && p.Asked && e.hidden > 0: // absent counts it
-	case n == 0 && !isCursor && isFirst && e.asking != nil && e.asking.done:
+	case n == 0 && !isCursor && isFirst && e.asking != nil && e.asking.place > 0:
 		at := int32(len(s.tx.Reads))
 		d.Selects = append(d.Selects, record.Select{From: at, To: at, Ask: e.asking.place})
 	case n == 0 && !isCursor:

@@ -52,7 +52,15 @@ func (c phantomCondition) asks(table string) (texts []string) {
 			texts = append(texts, "SELECT id, tag, pg_current_snapshot() FROM "+table+" WHERE "+text+more)
 		}
 	}
-	return texts
+	// Only what has a parent is in the join. Row 0 has none.
+	return append(texts, "SELECT id, tag, pg_current_snapshot(), name FROM "+table+" JOIN parents ON pid = a WHERE "+c.text)
+}
+
+// inJoin is what the last of these texts asks for.
+func (c phantomCondition) inJoin() phantomCondition {
+	return phantomCondition{c.text + " with a parent", func(v phantomRow) bool {
+		return v.a >= 0 && v.a < phantomParents && c.holds(v)
+	}}
 }
 
 // phantomAsk is a SELECT with what it returned: the tags of versions, by key.
@@ -185,6 +193,9 @@ func (c *phantomClient) select_(t *phantomTxn, own map[int]bool) error {
 		which++
 	case 1:
 		which, it.locks = which+2, true
+	}
+	if c.r.Intn(5) == 0 {
+		which, it.locks, it.by = len(texts)-1, false, it.by.inJoin()
 	}
 	text := texts[which]
 	if rows, err = c.ask(text); err != nil {
