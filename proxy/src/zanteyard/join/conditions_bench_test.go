@@ -67,9 +67,9 @@ func BenchmarkConditions(b *testing.B) {
 					}
 					text := "SELECT id, state FROM visits WHERE room = " + strconv.Itoa(l.r.Intn(100_000)) + " AND state >= 0"
 					p, tokens := cache.Plan(text)
-					q, err := p.Asks(text, tokens, condition.Arguments{})
-					if err != nil {
-						b.Fatal(err)
+					q := p.Asks(text, tokens, condition.Arguments{})
+					if q.Why != "" {
+						b.Fatal(q.Why)
 					}
 					if way == "followed" {
 						it.Asks = []record.Ask{{Condition: q.By, Identity: q.Identity, Columns: q.Columns, From: it.Began}}
