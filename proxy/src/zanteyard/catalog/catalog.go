@@ -96,6 +96,27 @@ func (t *Table) Covered(columns map[int16]bool) bool {
 	return false
 }
 
+// CoveredWith says whether each single index that contains all of these columns contains all of others, too.
+func (t *Table) CoveredWith(columns map[int16]bool, others []int16) bool {
+	for _, index := range t.Indexes {
+		held := map[int16]bool{}
+		for _, number := range index {
+			held[number] = true
+		}
+		covers, all := true, true
+		for number := range columns {
+			covers = covers && held[number]
+		}
+		for _, number := range others {
+			all = all && held[number]
+		}
+		if covers && !all {
+			return false
+		}
+	}
+	return true
+}
+
 // Catalog is a snapshot of one database's definitions.
 type Catalog struct {
 	// Path is the search path by which unqualified names are resolved, which In sets. A catalog that was just loaded has

@@ -104,7 +104,7 @@ func (f *fromClause) copied() (seen []*item) {
 		case named[it.name] > 1:
 			f.plan.leaveOut("two tables with the same name")
 		case f.removable(it):
-			f.plan.leaveOut("a join that the server may skip")
+			f.plan.leaveOut(aSkippedJoin)
 		default:
 			seen = append(seen, it)
 		}

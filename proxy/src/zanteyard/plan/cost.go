@@ -15,17 +15,16 @@ const aLargeJoin = "a sort or join of more than 12 tables"
 
 // widens reports whether hidden columns make rows wider that are sorted, joined or grouped.
 func widens(body node, f *fromClause) bool {
-	for _, field := range []string{"sortClause", "groupClause", "distinctClause", "windowClause"} {
-		if body.has(field) {
-			return true
-		}
-	}
-	over := false
-	visit(body["targetList"], func(kind string, its node) bool {
+	return body.has("sortClause") || body.has("groupClause") || body.has("distinctClause") || hasWindow(body) || f.items > 1
+}
+
+func hasWindow(body node) bool {
+	over := body.has("windowClause")
+	visit([]any{body["targetList"], body["sortClause"]}, func(kind string, its node) bool {
 		over = over || kind == "FuncCall" && its.has("over")
 		return kind != "SubLink" && !over
 	})
-	return over || f.items > 1
+	return over
 }
 
 // mostParameters limits the statements that are explained.

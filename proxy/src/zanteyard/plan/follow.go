@@ -77,6 +77,8 @@ func (m *maker) asksToWrite(p *Plan, name string, body node, others string) {
 
 func (m *maker) follow(p *Plan, body node) (*follow, string) {
 	switch {
+	case p.looksUp: // if it finds nothing, nothing shows of which table
+		return nil, aLookup
 	case p.MayWriteUnseen:
 		return nil, writesToo
 	case len(p.Unseen) > 0 && (len(p.Sources) == 0 || !isJoin(body)):

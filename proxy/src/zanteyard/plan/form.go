@@ -100,6 +100,9 @@ func (p *Plan) Form(answer []byte, hidden bool) string {
 		all[0].Plan.rename()
 		return all[0].Plan.copiedForm(hidden)
 	}
+	if p.looksUp && all[0].Plan.withoutLookups() {
+		return ""
+	}
 	if p.ComparedByForm() && !p.Ordered {
 		whole := all[0].Plan.whole(nil)
 		sort.Strings(whole)
@@ -130,12 +133,17 @@ func (n *planned) copiedForm(hidden bool) string {
 
 // rename takes off what the server puts behind a name that several tables of a statement have.
 func (n *planned) rename() {
-	if at := strings.LastIndexByte(n.Alias, '_'); at > 0 && strings.Trim(n.Alias[at+1:], "0123456789") == "" {
-		n.Alias = n.Alias[:at]
-	}
+	n.Alias = baseName(n.Alias)
 	for i := range n.Plans {
 		n.Plans[i].rename()
 	}
+}
+
+func baseName(name string) string {
+	if at := strings.LastIndexByte(name, '_'); at > 0 && strings.Trim(name[at+1:], "0123456789") == "" {
+		return name[:at]
+	}
+	return name
 }
 
 // whole appends the tables that are read whole.

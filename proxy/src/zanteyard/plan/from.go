@@ -30,7 +30,9 @@ type fromClause struct {
 	word     int  // of a subquery: its FROM
 	size     int  // how many items there are, with those of subqueries that are seen
 	depth    int  // in how many subqueries it is
-	reached  bool // names may mean what is around a subquery
+	// outermost: it is the statement's own.
+	outermost bool
+	reached   bool // names may mean what is around a subquery
 }
 
 // item is a table of a FROM clause.
@@ -45,6 +47,7 @@ type item struct {
 	natural  bool
 	converts bool // the connection's texts are in another encoding than the server's
 	listed   bool // the rows that an aggregate was made of are listed
+	looked   bool // its rows are looked up by its key
 	typed    bool // no description shows over which relation the statement is run
 	// If a subquery in FROM passes its columns on: their names in its result, by their own. named means that it names its table.
 	passed map[string]string
@@ -196,6 +199,9 @@ func (f *fromClause) groups() (seen []*item) {
 			f.plan.leaveOut("GROUP BY without an ORDER BY of its columns")
 		case f.removable(it):
 			f.plan.leaveOut(aSkippedJoin)
+		case looks && f.unlisted && f.looksUp(it, f.asked(it)):
+			f.plan.Looks, f.plan.looksUp, it.looked = true, true, true
+			seen = append(seen, it)
 		case looks && (f.taken != "" || f.unlisted):
 			f.plan.leaveOut(ByIndex)
 		default:
@@ -233,14 +239,14 @@ func (it *item) source() Source {
 	}
 	source := Source{
 		Relation: record.Relation(it.table.OID), Identity: it.table.Identity, Converts: it.converts, Types: types,
-		Nullable: it.nullable, Listed: it.listed, Name: it.name,
+		Nullable: it.nullable, Listed: it.listed || it.looked, Name: it.name,
 	}
-	if it.listed || it.typed {
+	if it.listed || it.typed || it.looked {
 		source.RowType = it.table.RowType
 	}
 	return source
 }
 
 func (it *item) relation() relation {
-	return relation{name: it.written, oid: it.table.OID, columns: keyNumbers(it.table), whole: it.listed || it.typed}
+	return relation{name: it.written, oid: it.table.OID, columns: keyNumbers(it.table), whole: it.listed || it.typed || it.looked}
 }

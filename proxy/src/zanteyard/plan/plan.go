@@ -179,6 +179,7 @@ type Plan struct {
 	configs    []int // the tokens of their names
 	apart      bool  // its text's lists mustn't be collapsed: another key has its plan
 	sample     string
+	looksUp    bool          // some of Sources are looked up by their keys
 	plain      span          // the part of it that is the statement as it is, if Copied
 	rests      *atomic.Int64 // until when it isn't used, in nanoseconds; nil if it never rests
 	relations  []relation

@@ -137,6 +137,13 @@ func (f *fromClause) indexOnly(it *item) bool {
 	if f.locks {
 		return false
 	}
+	columns := f.asked(it)
+	key, _ := wholeKey(f.where, it, f.items == 1)
+	return columns != nil && key == nil && it.table.Covered(columns)
+}
+
+// asked returns the columns that a statement asks of a table, by number, nil if it may ask for all of it.
+func (f *fromClause) asked(it *item) map[int16]bool {
 	columns := map[int16]bool{}
 	for _, other := range f.found {
 		if it.natural && other.natural && other != it {
@@ -150,13 +157,12 @@ func (f *fromClause) indexOnly(it *item) bool {
 		case all && ref.fields[len(ref.fields)-1] == "*":
 			common(columns, it.table, it.table)
 		case all:
-			return false
+			return nil
 		case hit:
 			columns[number] = true
 		}
 	}
-	key, _ := wholeKey(f.where, it, f.items == 1)
-	return key == nil && it.table.Covered(columns)
+	return columns
 }
 
 // common adds those columns of a table whose names another one has too: NATURAL compares these.

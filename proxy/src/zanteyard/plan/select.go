@@ -40,6 +40,7 @@ func (m *maker) selectsRows(p *Plan, body node, start, end int) {
 	}
 	word := m.fromWord(start, end)
 	f := &fromClause{maker: m, plan: p, with: withNames(body), lists: lists}
+	f.outermost = !body.has("groupClause") && !body.has("distinctClause") && !hasWindow(body)
 	unseen := p.Unseen
 	f.read(body, "fromClause")
 	by, distinct := []shared(nil), lists && body.has("distinctClause")
@@ -114,9 +115,12 @@ func (f *fromClause) result(h *hiding, body node, found []*item, word int) {
 		return
 	}
 	for _, source := range found {
-		if source.listed {
+		switch {
+		case source.looked:
+			h.looksUp(source)
+		case source.listed:
 			h.lists(source)
-		} else {
+		default:
 			h.reads(source)
 		}
 		p.Sources = append(p.Sources, source.source())

@@ -27,6 +27,9 @@ func (p *Plan) functions() (all []string) {
 	if p.Lists() || p.Inner != nil && p.Inner.Lists() {
 		all = append(all, "timestamptz_lt", "timestamptz_pl_interval", "int84le", "int4le", "int84eq")
 	}
+	if p.looksUp {
+		all = append(all, equalities...)
+	}
 	return all
 }
 

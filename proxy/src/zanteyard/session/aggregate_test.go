@@ -162,7 +162,7 @@ func TestListedForCertain(t *testing.T) {
 		{"SELECT id AS n FROM listed ORDER BY listed.id LIMIT 3", 3, ""},
 		{"SELECT id AS n, h AS id FROM listed ORDER BY id LIMIT 3", 3, ""},
 		{"SELECT 5 AS id FROM listed ORDER BY listed.id LIMIT 3", 3, ""},
-		{"SELECT id::text FROM listed ORDER BY listed.id LIMIT 3", 0, plan.ByIndex},
+		{"SELECT id::text FROM listed ORDER BY listed.id LIMIT 3", 3, ""},
 		{"SELECT h FROM listed WHERE h = 5", 0, plan.ByIndex},
 		{"SELECT count(t.v), sum(u.v) FROM t LEFT JOIN u ON u.a = t.id AND u.b <> 'b1' WHERE t.id < 3", 7, ""},
 	})

@@ -72,12 +72,17 @@ func TestCopiedRows(t *testing.T) {
 				p.settle()
 			}
 			p.sink.take()
+			got, want := "", ""
 			for _, one := range x.steps {
-				if got, want := show(p.do(one)), show(plain.do(one)); got != want {
-					t.Fatalf("got\n%s\nand not\n%s", got, want)
-				}
+				got += show(p.do(one))
 			}
 			p.settle()
+			for _, one := range x.steps {
+				want += show(plain.do(one))
+			}
+			if got != want {
+				t.Fatalf("got\n%s\nand not\n%s", got, want)
+			}
 			reads, selects, rows, did := 0, uint64(0), uint64(0), []record.Left(nil)
 			for _, it := range p.sink.take() {
 				_, _, its := it.Did.Sum(len(it.Reads))

@@ -196,6 +196,7 @@ func (s *Session) sumCopied(p *plan.Plan, e *expectation, isFirst bool, n uint64
 	switch {
 	case !isFirst || e.halted:
 		reason, e.copied = notAll, e.copied[:0]
+		s.tx.Touched, s.tx.Partly = true, true
 	case e.missed > 0:
 		reason = e.why
 	case len(p.Unseen) > 0:

@@ -1,0 +1,106 @@
+package plan
+
+import (
+	"strings"
+
+	"zanteyard/catalog"
+	"zanteyard/keys"
+)
+
+// An index that has all that a statement asks of a table may answer it alone, and a hidden xmin would prevent that: then the
+// server may choose another plan, which has rows in another order. But if the index has the table's key, too, the row can be
+// looked up by it, for each row of the result: that is one more query among the result's columns, whose cost is the same for
+// all plans of the statement. So the server chooses the same one.
+
+// aLookup is why what such a statement passed over isn't followed.
+const aLookup = "rows that are looked up by their key"
+
+// looksUp reports whether a table's rows can be looked up by its key, with the columns that the statement asks of it.
+func (f *fromClause) looksUp(it *item, columns map[int16]bool) bool {
+	t, m := it.table, f.maker
+	if !f.outermost || f.lists || f.plan.Kind != Select || m.cursor || m.prepared || m.catalog.Foreign || it.sampled ||
+		t.RowSecurity || t.Planned || t.Kind != 'r' && t.Kind != 'p' {
+		return false
+	}
+	for _, column := range t.Key {
+		if !isLookedUpBy(column) {
+			return false
+		}
+	}
+	return t.CoveredWith(columns, keyNumbers(t))
+}
+
+// isLookedUpBy reports whether the server has an operator of its own that compares such columns as their index does.
+func isLookedUpBy(column catalog.Column) bool {
+	switch column.Base {
+	case keys.Int2, keys.Int4, keys.Int8, keys.UUID, keys.Date, keys.Timestamp, keys.Timestamptz, keys.Oid, keys.Text, keys.Varchar,
+		keys.Bpchar, keys.Name, keys.Bool:
+		return true
+	}
+	return false
+}
+
+// equalities are the functions of these operators.
+var equalities = []string{"int2eq", "int4eq", "int8eq", "uuid_eq", "date_eq", "timestamp_eq", "timestamptz_eq", "oideq", "texteq",
+	"bpchareq", "nameeq", "booleq"}
+
+// looksUp adds a query for the row of a table that has the key of the one in the result.
+func (h *hiding) looksUp(it *item) {
+	var names, conditions []string
+	row := []string{alias + ".xmin", alias + ".tableoid"}
+	for _, column := range it.table.Key {
+		name := quote(column.Name)
+		names = append(names, name)
+		row = append(row, keys.Expression(column.Type, alias+"."+name, it.converts))
+		conditions = append(conditions, alias+"."+name+" OPERATOR(pg_catalog.=) "+quote(it.name)+"."+name)
+	}
+	h.proves(it.written, names)
+	h.value("(SELECT pg_catalog.record_send(ROW(" + strings.Join(append(row, noRow(alias)), ", ") + ")) FROM " + it.written + " AS " +
+		alias + " WHERE " + strings.Join(conditions, " AND ") + ")")
+}
+
+// isLookup reports whether a part of a plan looks up rows of a result.
+func (n *planned) isLookup() bool { return n.Place == "SubPlan" && n.isOfHidden() }
+
+func (n *planned) isOfHidden() bool {
+	if n.Relation != "" && baseName(n.Alias) == alias {
+		return true
+	}
+	for i := range n.Plans {
+		if n.Plans[i].isOfHidden() {
+			return true
+		}
+	}
+	return false
+}
+
+// withoutLookups takes these parts off a plan. It reports whether one of them reads a table whole that the statement doesn't.
+func (n *planned) withoutLookups() (further bool) {
+	var taken []planned
+	n.take(&taken)
+	its := map[string]bool{}
+	for _, table := range n.whole(nil) {
+		name, _, _ := strings.Cut(table, " ")
+		its[name] = true
+	}
+	for i := range taken {
+		for _, table := range taken[i].whole(nil) {
+			name, _, _ := strings.Cut(table, " ")
+			further = further || !its[name]
+		}
+	}
+	return further
+}
+
+func (n *planned) take(to *[]planned) {
+	var left []planned
+	for i := range n.Plans {
+		if n.Plans[i].isLookup() {
+			*to = append(*to, n.Plans[i])
+		} else {
+			n.Plans[i].take(to)
+			left = append(left, n.Plans[i])
+		}
+	}
+	n.Plans = left
+}
