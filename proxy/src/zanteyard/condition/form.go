@@ -19,6 +19,9 @@ type Form struct {
 	Given bool
 	Outer []Outer
 
+	// Partly says why a part of the condition, behind an OR, isn't followed; nil if all is.
+	Partly error
+
 	// Drops says why the statement's result may lack a row that satisfies the condition, or "" if it can't: then whatever
 	// isn't in the result was passed over. What a result's rows are made of, if it has aggregates, groups, HAVING or DISTINCT,
 	// is for the caller to know.

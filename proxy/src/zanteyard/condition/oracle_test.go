@@ -359,6 +359,12 @@ func (o *oracle) compare() int {
 			}
 			compared++
 			got := made.Holds(version)
+			if form.Partly != nil { // where the rest of it holds, all of it does
+				if o.counts["partly"]++; got == condition.Yes && want != condition.Yes {
+					o.t.Errorf("%s of row %d is %v, but %v, a part of it, holds", text, i, want, made)
+				}
+				continue
+			}
 			if got == condition.Unknown && plugin == "wal2json" && numbers.MatchString(text) {
 				o.counts["unknown: NaN or an infinity"]++
 				continue

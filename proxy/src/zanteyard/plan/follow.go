@@ -48,7 +48,7 @@ func (m *maker) asksBy(p *Plan, body node) {
 		p.NotFollowed = "UNION, INTERSECT or EXCEPT"
 		return
 	}
-	if !body.has("fromClause") {
+	if !body.has("fromClause") || len(p.Sources) == 0 && len(p.Unseen) == 0 { // it has only the server's own tables
 		return
 	}
 	f, reason := m.follow(p, body)
@@ -239,6 +239,7 @@ type Question struct {
 	Columns  record.Identity // and of its columns
 	Source   int             // which of the plan's sources it is, if there are several tables
 	Why      string          // why it isn't followed
+	Partly   string          // or a part of it
 }
 
 // Most returns how many rows a statement returns at most: if it returned as many, others may be missing of which its
@@ -303,6 +304,8 @@ func (s *side) asks(text string, tokens Tokens, at int, with condition.Arguments
 	var err error
 	if q.By, err = s.form.Bind(with); err != nil {
 		q.Why = err.Error()
+	} else if s.form.Partly != nil {
+		q.Partly = s.form.Partly.Error()
 	}
 	return q
 }

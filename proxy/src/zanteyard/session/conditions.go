@@ -271,6 +271,9 @@ func (t *transaction) ask(a *asking, of plan.Question, found []record.Key, wrote
 	if a.place == 0 {
 		a.place = int32(len(t.Asks))
 	}
+	if of.Partly != "" && len(t.Asks) <= mostConditions {
+		t.Asks = append(t.Asks, record.Ask{Why: of.Partly})
+	}
 }
 
 // mayHaveWritten reports whether a transaction may have written anything by now.
