@@ -2,4 +2,8 @@ mod EndReads
 mod Lookups
 mod Orders
 mod Pending
+mod Refuting
+mod Sizes
 mod Stands
+mod Steps
+mod WellFormed

@@ -1,3 +1,5 @@
 pub mod Laws
+pub mod Refuted
 pub mod Rewriting
 pub mod Strict
+pub mod Times

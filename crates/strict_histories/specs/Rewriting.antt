@@ -10,7 +10,7 @@ use Rattle.strict_histories.specs.declared.timed.Span.{Span}
 use Rattle.strict_histories.specs.declared.timed.TimedTxn.{TimedTxn}
 use Rattle.strict_histories.specs.Strict.{TimedHistory}
 
--- whether the one time is before the other, where both are known
+-- whether the one time is before the other, if both are known
 abbrev pub is_earlier : Option ℕ → Option ℕ → Bool
 is_earlier None began = false
 is_earlier (Some ended) None = false
@@ -24,18 +24,18 @@ ended_before one other = is_earlier one.ended other.began
 abbrev pub end_key : TxnId → ℕ
 end_key id = 2 ^ 62 + id.session * 2 ^ 48 + id.number
 
--- it is written by a transaction of which it is known when it ended
+-- a transaction writes it if it is known when it ended
 abbrev pub end_writes : TxnId → Option ℕ → List ℕ
 end_writes id None = []
 end_writes id (Some ended) = end_key id ∷ []
 
--- the later one where there is one, else this one if it passes
+-- the later one if there is one, else this one if it passes
 abbrev pub later_or : Option ℕ → Bool → ℕ → Option ℕ
 later_or (Some later) passes number = Some later
 later_or None true number = Some number
 later_or None false number = None
 
--- the number of the last of these transactions of a session, the first with this number, that ended before that span began
+-- the number of the last of these transactions of a session, the first with this number, that ended before one with this span began
 abbrev pub last_before : Span → ℕ → List TimedTxn → Option ℕ
 last_before span number [] = None
 last_before span number (t ∷ txns) = later_or (last_before span (number + 1) txns) (ended_before t.span span) number
@@ -45,7 +45,7 @@ abbrev pub end_read : ℕ → Option ℕ → List (ℕ × Source)
 end_read s None = []
 end_read s (Some number) = (end_key (record { session = s; number = number }), By (record { session = s; number = number })) ∷ []
 
--- of each of these sessions, the first with this number, the key of the last that ended before that span began
+-- of each of these sessions, the first with this number, the key of the last that ended before one with this span began
 abbrev pub end_reads : Span → ℕ → TimedHistory → List (ℕ × Source)
 end_reads span s [] = []
 end_reads span s (txns ∷ sessions) = end_read s (last_before span 0 txns) ++ end_reads span (s + 1) sessions

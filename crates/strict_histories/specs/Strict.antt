@@ -1,5 +1,5 @@
 -- Strict serializability of whole histories (Herlihy and Wing 1990): an order explains the history, and a transaction that
--- ended before another one began stands before it there.
+-- ended before another one began comes before it there.
 use Rattle.std.specs.Prelude.{◌≡◌, ℕ, ◌<◌, List, slice_get, Option, Some, map}
 use Rattle.list_lemmas.specs.Precedes.{Precedes}
 use Rattle.txn.specs.declared.transactions.TxnId.{TxnId}
@@ -32,13 +32,13 @@ EndedBefore timed one other =
 -- An order explains a history, and keeps real time.
 pub record IsStrictOrder (timed : TimedHistory) (order : List TxnId) : Type 0 where
   pub explains : ExplainsWhole (untimed timed) order
-  -- where one ended before another began, it stands before it
+  -- if one ended before another began, it comes before it
   pub real_time : (one other : TxnId) → EndedBefore timed one other → Precedes order one other
 
 abbrev pub HasStrictOrder : TimedHistory → Type 0
 HasStrictOrder timed = (order : List TxnId) × IsStrictOrder timed order
 
--- Violated where no order explains the history and keeps real time; else pending where some read is pending; else serial.
+-- Violated if no order explains the history and keeps real time; else pending if some read is pending; else serial.
 abbrev pub IsStrictVerdict : TimedHistory → Kind → Type 0
 IsStrictVerdict timed Violated = ¬ HasStrictOrder timed
 IsStrictVerdict timed Pending = HasStrictOrder timed × HasPendingWhole (untimed timed)

@@ -1,7 +1,7 @@
 //! Laws of rewritten histories. The functions do nothing.
-ghost use Rattle.strict_histories.specs.Laws.{SameOrdersRewritten, RewritingKeepsPending, RewritingKeepsVerdict};
+ghost use Rattle.strict_histories.specs.Laws.{SameOrdersRewritten, RewritingKeepsPending, RewritingKeepsVerdict, RewritingKeepsCounts, RewritingAddsFew, RewritingIsWellFormed};
 
-/// The orders that keep real time are those that explain the rewritten history.
+/// The orders that explain a history and keep real time are those that explain the rewritten history.
 pub fn same_orders_rewritten()
     ensures { SameOrdersRewritten }
 {}
@@ -14,4 +14,19 @@ pub fn rewriting_keeps_pending()
 /// The verdict by strict serializability is the rewritten history's verdict by some order.
 pub fn rewriting_keeps_verdict()
     ensures { RewritingKeepsVerdict }
+{}
+
+/// A rewritten history has as many sessions, and each as many transactions.
+pub fn rewriting_keeps_counts()
+    ensures { RewritingKeepsCounts }
+{}
+
+/// A transaction gets at most one read more for each session, and at most one write more.
+pub fn rewriting_adds_few()
+    ensures { RewritingAddsFew }
+{}
+
+/// What a well-formed transaction is rewritten into is well formed, if it didn't end before it began and no fence has times.
+pub fn rewriting_is_well_formed()
+    ensures { RewritingIsWellFormed }
 {}
