@@ -14,6 +14,7 @@ pub mod LineCounts
 pub mod Openings
 pub mod OtherCommands
 pub mod Pages
+pub mod Pasts
 pub mod ReplyKinds
 pub mod Resumed
 pub mod ScriptRounds

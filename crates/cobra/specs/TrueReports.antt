@@ -1,11 +1,13 @@
 -- The main theorem of scripts: each report in an output is true of everything that the script's lines had offered and that was answered ok
 -- before the report's round began.
-use Rattle.std.specs.Prelude.{◌≡◌, ◌⊎◌, ⊤, Bool, true, List, [], ◌∷◌, map, length, Option, Some, None, ℕ}
+use Rattle.std.specs.Prelude.{◌≡◌, ◌⊎◌, ◌↔◌, ⊤, Bool, true, List, [], ◌∷◌, ◌++◌, map, length, Contains, Option, Some, None, IfSome, option_map, ℕ}
 use Rattle.std.specs.List.{concat}
+use Rattle.txn.specs.declared.transactions.TxnId.{TxnId}
 use Rattle.txn.specs.History.{History}
 use Rattle.logged_fragments.specs.Effects.{effects}
 use Rattle.order_check.specs.declared.remainder.Kind.TheVariants as kinds
 use Rattle.order_check.specs.StandsFor.{StandsFor, history_after, with_fragment}
+use Rattle.order_check.specs.Whole.{ExplainsWhole}
 use Rattle.log_text.specs.declared.commands.Command.{Command}
 use Rattle.log_text.specs.declared.commands.Command.TheVariants.{Start, StartIsolated, Offer, Join, Begin, Round, Resumed}
 use Rattle.log_text.specs.declared.replies.Reply.{Reply}
@@ -15,29 +17,37 @@ use Rattle.log_text.specs.declared.versions.Opening.TheVariants.{Ordered, Isolat
 use Rattle.round_state.specs.Legal.{IsTrueOf}
 use Rattle.round_state.specs.Opening.{no_history}
 use Rattle.round_state.specs.Steps.{arrival_of}
-use Rattle.snapshot_histories.specs.Halves.{event_at}
+use Rattle.gone_orders.specs.Behind.{RemainsBehind}
+use Rattle.snapshot_histories.specs.Halves.{commit_half, event_at}
 use Rattle.snapshot_histories.specs.Split.{split_history, HistoryCanBeSplit}
+use Rattle.snapshot_rests.specs.Behind.{KeepsBehind}
 use Rattle.snapshot_scripts.specs.Legal.{IsIsolationOf}
 use Rattle.whole_orders.specs.Isolated.{EndsSnapshotOrder}
 use Rattle.whole_orders.specs.Left.{EndsOrder, IsLeftOf}
+use Rattle.engine_pasts.specs.Holding.{HoldsBehind}
+use Rattle.engine_pasts.specs.Laws.{ToldBehind}
 use Rattle.cobra.specs.HandOver.{handed_parts}
 use Rattle.cobra.specs.Outputs.{Asks, IsOutputOf}
 use Rattle.cobra.specs.Scripts.{Answers, IsBadLine}
 use Rattle.cobra.specs.declared.stages.Stage.{Stage}
 use Rattle.cobra.specs.declared.stages.Stage.TheVariants as stage
 
--- The whole history with which a script that resumes another begins; and whether the parts that are handed over are known to be what is left of it,
--- so that each order of theirs is the end of one of the whole. That they stand for it tells of verdicts alone.
+-- The whole history with which a script that resumes another begins; whether the parts that are handed over are known to be what is left of it, so
+-- that each order of theirs is the end of one of the whole; and, where one is known, the order of what is gone behind which they remain. That they
+-- stand for it tells of verdicts alone.
 pub record Origin : Type 0 where
   pub whole : History
   pub left : Bool
+  pub past : Option (List TxnId)
 
--- What a script's lines had offered and what was answered ok: all of it, and what it was when the open round began; and whether what is kept is
--- known to be what is left of it, as it is where the script doesn't resume another.
+-- What a script's lines had offered and what was answered ok: all of it, and what it was when the open round began; whether what is kept is known to
+-- be what is left of it; and the order of what is gone, where one is known. Both are known where the script doesn't resume another. Where
+-- transactions are split, what is gone are halves, each of which stands for a begin or a commit (event_at).
 pub record Accepted : Type 0 where
   pub whole : History
   pub asked : History
   pub left : Bool
+  pub past : Option (List TxnId)
 
 -- Of an open engine: an offer that is answered ok puts what its fragment did at the end of its session; so does a join, where its session is
 -- new in a session more; a begin that is answered ok takes all of it.
@@ -47,11 +57,15 @@ accepted_more old (Join logged) told.Done = record old { whole = history_after o
 accepted_more old Begin told.Done = record old { asked = old.whole }
 accepted_more old command answer = old
 
--- The same of a script: nothing was accepted where one is opened. One that resumes another begins with the whole history of that.
+-- behind what is gone these are gone, too, in this order
+abbrev pub moved : Accepted → List TxnId → Accepted
+moved old ahead = record old { past = option_map (λ gone. gone ++ ahead) old.past }
+
+-- The same of a script: nothing was accepted where one is opened, and nothing is gone. One that resumes another begins with the whole history of that.
 abbrev pub accepted_after : Origin → Option Accepted → Command → Reply → Option Accepted
-accepted_after origin None (Start sessions limit version) told.Done = Some (record { whole = no_history sessions; asked = no_history sessions; left = true })
-accepted_after origin None (StartIsolated sessions limit version) told.Done = Some (record { whole = no_history sessions; asked = no_history sessions; left = true })
-accepted_after origin None Resumed told.Done = Some (record { whole = origin.whole; asked = origin.whole; left = origin.left })
+accepted_after origin None (Start sessions limit version) told.Done = Some (record { whole = no_history sessions; asked = no_history sessions; left = true; past = Some [] })
+accepted_after origin None (StartIsolated sessions limit version) told.Done = Some (record { whole = no_history sessions; asked = no_history sessions; left = true; past = Some [] })
+accepted_after origin None Resumed told.Done = Some (record { whole = origin.whole; asked = origin.whole; left = origin.left; past = origin.past })
 accepted_after origin None command answer = None
 accepted_after origin (Some old) command answer = Some (accepted_more old command answer)
 
@@ -62,35 +76,69 @@ reported_on accepted command = accepted.asked
 
 -- A reply that is a report is true of a history: it counts the transactions of each session, and its kind, where it isn't spent, is the
 -- verdict of the whole: by some order, or, where it is told of begins and commits, by snapshot isolation. An order that it tells is the end of one that
--- explains the whole history, or of one of begins and commits of all of it that is snapshot isolation: where what is kept is what is left of it.
-abbrev pub TellsTrueOf : Bool → History → Reply → Type 0
-TellsTrueOf left history (told.Order round kind counts order) = (counts ≡ map length history) × IsTrueOf history kind × (left ≡ true → EndsOrder history order)
-TellsTrueOf left history (told.Violated round counts tree) = (counts ≡ map length history) × IsTrueOf history kinds.Violated
-TellsTrueOf left history (told.Events round kind counts order) = (counts ≡ map length history) × IsIsolationOf history kind × (left ≡ true → EndsSnapshotOrder history (map event_at order))
-TellsTrueOf left history (told.Broken round counts tree) = (counts ≡ map length history) × IsIsolationOf history kinds.Violated
-TellsTrueOf left history (told.Spent round counts) = counts ≡ map length history
-TellsTrueOf left history other = ⊤
+-- explains the whole history, or of one of begins and commits of all of it that is snapshot isolation: where what is kept is what is left of it. Where
+-- the order of what is gone is known, put behind that it explains the whole history, or is one of begins and commits that is snapshot isolation.
+abbrev pub TellsTrueOf : Bool → Option (List TxnId) → History → Reply → Type 0
+TellsTrueOf left past history (told.Order round kind counts order) = (counts ≡ map length history) × IsTrueOf history kind × (left ≡ true → EndsOrder history order) × IfSome past (λ gone. ExplainsWhole history (gone ++ order))
+TellsTrueOf left past history (told.Violated round counts tree) = (counts ≡ map length history) × IsTrueOf history kinds.Violated
+TellsTrueOf left past history (told.Events round kind counts order) =
+    (counts ≡ map length history) × IsIsolationOf history kind × (left ≡ true → EndsSnapshotOrder history (map event_at order))
+    × IfSome past (λ gone. KeepsBehind history (map event_at gone) (map event_at order))
+TellsTrueOf left past history (told.Broken round counts tree) = (counts ≡ map length history) × IsIsolationOf history kinds.Violated
+TellsTrueOf left past history (told.Spent round counts) = counts ≡ map length history
+TellsTrueOf left past history other = ⊤
 
--- the same of what was accepted by then, once an engine is open
-abbrev pub IsTrueTold : Option Accepted → Command → Reply → Type 0
-IsTrueTold None command answer = ⊤
-IsTrueTold (Some accepted) command answer = TellsTrueOf accepted.left (reported_on accepted command) answer
+-- What the engine of a script holds remains of what was accepted, behind what is gone, in this order; or, where transactions are split, tells of it,
+-- behind the begins and commits that are gone: so what a show, a save and a cut tell of is that. The open round's snapshot is one of what was accepted
+-- when the round began, behind the same.
+abbrev pub IsKeptBehind : Stage → List TxnId → Accepted → Type 0
+IsKeptBehind (stage.Open audit version) gone accepted = HoldsBehind gone audit.engine accepted.whole accepted.asked
+IsKeptBehind (stage.Isolated audit version) gone accepted = ToldBehind gone audit.engine accepted.whole accepted.asked
+IsKeptBehind other gone accepted = ⊥
+
+-- the same of a script, once an engine is open and where the order of what is gone is known
+abbrev pub IsKept : Stage → Option Accepted → Type 0
+IsKept old None = ⊤
+IsKept old (Some accepted) = IfSome accepted.past (λ gone. IsKeptBehind old gone accepted)
+
+-- What a reply puts behind what is gone: a cut the transactions that it tells, in some order, and any other reply nothing.
+abbrev pub MovesTxns : Reply → List TxnId → Type 0
+MovesTxns (told.Cut fence gone last) ahead = (id : TxnId) → Contains ahead id ↔ Contains gone id
+MovesTxns answer ahead = ahead ≡ []
+
+-- The same where transactions are split: a cut puts halves there, and those that it tells are the transactions whose commit is among these.
+abbrev pub MovesHalves : Reply → List TxnId → Type 0
+MovesHalves (told.Cut fence gone last) ahead = (id : TxnId) → Contains ahead (commit_half id) ↔ Contains gone id
+MovesHalves answer ahead = ahead ≡ []
+
+-- by what the script asks for
+abbrev pub MovesBehind : Stage → Reply → List TxnId → Type 0
+MovesBehind (stage.Isolated audit version) answer ahead = MovesHalves answer ahead
+MovesBehind other answer ahead = MovesTxns answer ahead
+
+-- Once an engine is open: the reply is true of what was accepted by then, and puts these behind what is gone. Before, there are none.
+abbrev pub IsTrueTold : Stage → Option Accepted → Command → Reply → List TxnId → Type 0
+IsTrueTold old None command answer ahead = ahead ≡ []
+IsTrueTold old (Some accepted) command answer ahead = TellsTrueOf accepted.left accepted.past (reported_on accepted command) answer × IfSome accepted.past (λ gone. MovesBehind old answer ahead)
 
 -- Where a hand-over ends, the parts that were handed over stand for the whole history with which the script begins; or, where transactions are
--- split, for the split one. Where it is said so, they are what is left of it, too.
+-- split, for the split one. Where it is said so, they are what is left of it, too, and remain of it behind the order of what is gone.
 abbrev pub BeginsWith : Origin → Stage → Command → Reply → Type 0
-BeginsWith origin (stage.Handing handed (Ordered version)) Resumed told.Done = StandsFor (handed_parts handed) origin.whole × (origin.left ≡ true → IsLeftOf (handed_parts handed) origin.whole)
+BeginsWith origin (stage.Handing handed (Ordered version)) Resumed told.Done =
+    StandsFor (handed_parts handed) origin.whole × (origin.left ≡ true → IsLeftOf (handed_parts handed) origin.whole) × IfSome origin.past (λ gone. RemainsBehind gone (handed_parts handed) origin.whole)
 BeginsWith origin (stage.Handing handed (Isolated version)) Resumed told.Done =
     StandsFor (handed_parts handed) (split_history origin.whole) × HistoryCanBeSplit origin.whole × (origin.left ≡ true → IsLeftOf (handed_parts handed) (split_history origin.whole))
+    × IfSome origin.past (λ gone. RemainsBehind gone (handed_parts handed) (split_history origin.whole))
 BeginsWith origin old command answer = ⊤
 
--- Line after line, from where the script stands and what was accepted by then: each line is answered as it may be, and each report is true of
--- what was accepted. A line that is no command adds nothing.
+-- Line after line, from where the script stands and what was accepted by then: each line is answered as it may be, each report is true of what was
+-- accepted, and what is kept is what remains behind one order of what is gone, which a cut makes longer and nothing else changes. A line that is no
+-- command adds nothing.
 abbrev pub AreTrueReplies : Origin → Stage → Option Accepted → List (List ℕ) → List Reply → Stage → Type 0
-AreTrueReplies origin old accepted [] [] new = new ≡ old
+AreTrueReplies origin old accepted [] [] new = (new ≡ old) × IsKept old accepted
 AreTrueReplies origin old accepted (line ∷ lines) (answer ∷ answers) new =
-    ((command : Command) × (between : Stage) × Asks line command × Answers old command answer between × IsTrueTold accepted command answer
-    × (BeginsWith origin old command answer → AreTrueReplies origin between (accepted_after origin accepted command answer) lines answers new))
+    ((command : Command) × (between : Stage) × (ahead : List TxnId) × Asks line command × Answers old command answer between × IsKept old accepted × IsTrueTold old accepted command answer ahead
+    × (BeginsWith origin old command answer → AreTrueReplies origin between (option_map (λ so_far. moved so_far ahead) (accepted_after origin accepted command answer)) lines answers new))
     ⊎ (((command : Command) → ¬ Asks line command) × IsBadLine old answer old × AreTrueReplies origin old accepted lines answers new)
 AreTrueReplies origin old accepted [] (answer ∷ answers) new = ⊥
 AreTrueReplies origin old accepted (line ∷ lines) [] new = ⊥

@@ -3,6 +3,10 @@ ghost use Rattle.cobra.specs.Limits.{BoundsStay};
 ghost use Rattle.cobra.specs.SplitStages.{IsolatedStays};
 ghost use Rattle.cobra.specs.TrueReports.{EachReportIsTrue};
 
+use engine_pasts::{
+    fresh_engines_hold_behind, halves_are_told_behind, parts_hold_behind,
+    reported_orders_stand_behind, steps_hold_behind,
+};
 use snapshot_histories::{orders_isolate, split_doubles_counts, split_keeps_verdict};
 use snapshot_scripts::{
     fresh_engines_are_split, split_engines_stay, split_steps_are_legal, split_steps_follow,
@@ -12,7 +16,7 @@ use whole_orders::{
 };
 
 /// Whatever `serve` may leave, each report in it is true of everything that the script's lines had offered and that was answered ok before
-/// the report's round began.
+/// the report's round began, and stands behind one order of what is gone.
 pub fn each_report_is_true()
     ensures { EachReportIsTrue }
 {
@@ -27,6 +31,11 @@ pub fn each_report_is_true()
     reported_orders_end_orders();
     fresh_engines_go_on();
     left_parts_go_on();
+    fresh_engines_hold_behind();
+    parts_hold_behind();
+    steps_hold_behind();
+    reported_orders_stand_behind();
+    halves_are_told_behind();
 }
 
 /// A script keeps the bounds of its version: how many sessions there may be, and how many transactions may remain.

@@ -9,7 +9,10 @@ returns c = each_report (record {
   doubles = c.split_doubles_counts.ensures;
   isolate = c.orders_isolate.ensures;
   follow = c.split_steps_follow.ensures;
-  wholes = record { on = c.steps_go_on.ensures; ends = c.reported_orders_end_orders.ensures };
+  wholes = record { on = c.steps_go_on.ensures; ends = c.reported_orders_end_orders.ensures; past = c.steps_hold_behind.ensures; orders = c.reported_orders_stand_behind.ensures };
   fresh_on = c.fresh_engines_go_on.ensures;
   parts_on = c.left_parts_go_on.ensures;
+  fresh_behind = c.fresh_engines_hold_behind.ensures;
+  parts_behind = c.parts_hold_behind.ensures;
+  halves = c.halves_are_told_behind.ensures;
 })
