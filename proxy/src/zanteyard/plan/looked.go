@@ -37,12 +37,12 @@ func isLookedUpBy(column catalog.Column) bool {
 		keys.Bpchar, keys.Name, keys.Bool:
 		return true
 	}
-	return false
+	return column.Type == keys.Enum
 }
 
 // equalities are the functions of these operators.
 var equalities = []string{"int2eq", "int4eq", "int8eq", "uuid_eq", "date_eq", "timestamp_eq", "timestamptz_eq", "oideq", "texteq",
-	"bpchareq", "nameeq", "booleq"}
+	"bpchareq", "nameeq", "booleq", "enum_eq"}
 
 // looksUp adds a query for the row of a table that has the key of the one in the result.
 func (h *hiding) looksUp(it *item) {

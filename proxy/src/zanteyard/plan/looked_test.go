@@ -18,6 +18,9 @@ CREATE TABLE pieces (a int, b text, PRIMARY KEY (a, b)) PARTITION BY RANGE (a);
 CREATE TABLE pieces_1 PARTITION OF pieces FOR VALUES FROM (0) TO (100);
 CREATE TABLE pieces_2 PARTITION OF pieces FOR VALUES FROM (100) TO (1000);
 INSERT INTO pieces SELECT i % 500, 'b' || i FROM generate_series(1, 5000) i;
+CREATE TABLE moods (m mood, who varchar(64), yes boolean, PRIMARY KEY (m, who, yes));
+INSERT INTO moods SELECT CASE i % 2 WHEN 0 THEN 'sad' ELSE 'it''s ok' END::mood, 'w' || i / 8, i % 3 = 0 FROM generate_series(1, 4000) i
+  ON CONFLICT DO NOTHING;
 CREATE TABLE odd_keys (n numeric, m int, PRIMARY KEY (n, m)); INSERT INTO odd_keys SELECT i / 10, i FROM generate_series(1, 2000) i;`)
 	run(t, connection, "VACUUM ANALYZE")
 	known := load(t, connection, catalog.OnlyCertainLists)
@@ -36,6 +39,7 @@ CREATE TABLE odd_keys (n numeric, m int, PRIMARY KEY (n, m)); INSERT INTO odd_ke
 		{"SELECT p.kind, u.w FROM people p JOIN u ON u.t = p.id WHERE p.kind = 'k3'", true, ""},
 		{"SELECT u.w, l.b FROM u LEFT JOIN linked l ON l.a = u.t WHERE u.id < 3", true, ""},
 		{"SELECT a FROM pieces WHERE a = 70", true, ""},
+		{"SELECT m, who, yes FROM moods WHERE who IN ('w7', 'w8') AND m = 'sad' AND yes = false", true, ""},
 		{"SELECT b FROM linked WHERE a = 7 FOR UPDATE", false, ""},
 		{"SELECT note FROM linked WHERE a = 7", false, ""},
 		{"SELECT b FROM linked WHERE b > 7", false, ByIndex}, // the index of b alone hasn't the key
