@@ -3,9 +3,11 @@
     /usr/bin/python3 bench/mutants.py python|go|conditions [--count 60] [--seed 1] [--processes 2] [--only FILE:LINE] [--rows FILE]
 
 Mutants of the Python package's sessions, live audits, rounds, notes and crash recovery, of the
-proxy's joiner, or of what it does with conditions, are drawn with the seed. Python: the tests are traced once; each mutant is run with
-the tests that run its line and pass without it, in a copy of the tree. Go: with the joiner's tests,
-by an overlay; those of package condition with that one's. A mutant is found if a test fails, or takes eight times as long as without it. It
+proxy's joiner, or of what it does with conditions, are drawn with the seed. Python: the tests are
+traced once; each mutant is run with the tests that run its line and pass without it, in a copy of
+the tree. Go: with the joiner's tests, by an overlay. `conditions`: with the tests of package
+condition, or those of the joiner that ask by conditions, so that sixty end within ten minutes on
+two processors. A mutant is found if a test fails, or takes eight times as long as without it. It
 prints a line for each mutant that isn't found, which somebody has to read: either it means the
 same, or a test is missing. The status is 1 if more than one in twenty isn't found.
 """
@@ -47,6 +49,8 @@ TESTS = (
     *("two_stores.InMemory", "two_stores.Told", "aborted", "joining", "live", "rounds", "killed.Killed"),
 )
 GO_SLOW = "Lives|MakesUpNo|MemoryIsBounded|HotRow|AsTheServerDoes"  # the tests that take seconds
+# Of the joiner, the tests that ask by conditions, without those of the tests themselves (WrongPassing), which take minutes.
+ASKING = "TestPassingOver|PassedOver|Registers|Asked|Asks|ByACondition|Lost|Beside"
 QUICKEST = 100  # tests, for code that runs before any of them
 LONGEST = 1800.0  # seconds for a call of tests without a mutant
 Mutant = collections.namedtuple("Mutant", "path line about text")  # the text is made on demand
@@ -260,9 +264,9 @@ def package_of(mutant):
     return os.path.basename(os.path.dirname(mutant.path))
 
 
-def go_calls(folder, names, mutant, its):
+def go_calls(folder, names, mutant, its, asking):
     """The tests of a package, the fast ones first; then those of other packages. None if it can't
-    be compiled."""
+    be compiled. Asking: of the joiner's tests, only those that ask by conditions."""
     text, overlay, program = (os.path.join(folder, name) for name in ("mutant.go", "overlay", "tests"))
     if mutant is not None:
         with open(text, "w", encoding="utf-8") as file:
@@ -275,17 +279,18 @@ def go_calls(folder, names, mutant, its):
         yield None
         return
     listed = subprocess.run([program, "-test.list", "^Test"], cwd=package, capture_output=True, text=True, check=False)
-    every = listed.stdout.split()
+    every = [name for name in listed.stdout.split() if not asking or its != "join" or re.search(ASKING, name)]
     slow = [name for name in every if re.search(GO_SLOW, name)]
     for name, some in ((its, [name for name in every if name not in slow]), (f"{its}, slow ones", slow)):
-        yield name, [program, "-test.failfast", "-test.run", f"^({'|'.join(some)})$"], package
+        if some:
+            yield name, [program, "-test.failfast", "-test.run", f"^({'|'.join(some)})$"], package
     for name in names:
         yield name, ["go", "test", "-vet=off", "-failfast", "-overlay", overlay, f"zanteyard/{name}"], PROXY
 
 
-def go_fate(folder, mutant, names, limits):
+def go_fate(folder, mutant, names, limits, asking):
     """As python_fate; "isn't one" if it can't be compiled."""
-    for one in go_calls(folder, names, mutant, package_of(mutant)):
+    for one in go_calls(folder, names, mutant, package_of(mutant), asking):
         if one is None:
             return "isn't one", ""
         name, call, home = one
@@ -297,10 +302,10 @@ def go_fate(folder, mutant, names, limits):
     return "lives", ""
 
 
-def go_limits(folder, names, packages):
+def go_limits(folder, names, packages, asking):
     """The limit for each call; None if it fails without a mutant, too, since it would then find
     anything."""
-    limits, calls = {}, (go_calls(folder, names, None, its) for its in packages)
+    limits, calls = {}, (go_calls(folder, names, None, its, asking) for its in packages)
     for name, call, home in itertools.chain.from_iterable(calls):
         began = time.monotonic()
         status, told = end_of(call, home, folder, LONGEST)
@@ -369,7 +374,8 @@ def main():
     with tempfile.TemporaryDirectory() as folder:
         os.chmod(folder, 0o711)
         if asked.kind != "python":
-            limits = go_limits(folder, asked.tests or (), sorted({package_of(it) for it in mutants}))
+            asking = asked.kind == "conditions"
+            limits = go_limits(folder, asked.tests or (), sorted({package_of(it) for it in mutants}), asking)
         else:
             ran = traced(asked.tests or TESTS, asked.lines or folder)
 
@@ -380,7 +386,7 @@ def main():
             with tempfile.TemporaryDirectory() as folder:
                 os.chmod(folder, 0o711)  # if this runs as root, servers run as another user
                 if asked.kind != "python":
-                    its = go_fate(folder, mutant, asked.tests or (), limits)
+                    its = go_fate(folder, mutant, asked.tests or (), limits, asking)
                 else:
                     its = python_fate(folder, mutant, ran)
             if asked.rows:

@@ -6,12 +6,12 @@
 Each work of pgbench (`select` is its -S, `update` its -N, `tpcb` its tpcb-like; `transfer` is two
 reads and an update at serializable; `asks` is a read and an update, where two reads in five ask by
 a condition, hardly ever the same one) runs each way in turn: `direct`, `pgbouncer` (session
-pooling), `passing` (the proxy with --pass), `audited` (`zanteyard watch` with everything that it
-starts), `followed` (the same with --conditions). The
-programs in between run only during their turn. The table has, as medians: transactions per second;
-their share of the direct ones; the microseconds of processor time per transaction, of pgbouncer or
-the proxy, and of the rest of the audit; and with --latency, the median and the 99th percentile of a
-transaction's time, in microseconds. With TMPDIR=/dev/shm the server's folder is in memory.
+pooling), `passing` (the proxy with --pass), `audited` (`zanteyard watch --no-conditions` with everything that
+it starts), `followed` (the same with conditions). The programs in between run only during their
+turn. The table has, as medians: transactions per second; their share of the direct ones; the
+microseconds of processor time per transaction, of pgbouncer or the proxy, and of the rest of the
+audit; and with --latency, the median and the 99th percentile of a transaction's time, in
+microseconds. With TMPDIR=/dev/shm the server's folder is in memory.
 
 It needs PostgreSQL 15, pgbouncer and a built proxy (`proxy/build.sh`, or ZANTEYARD_PROXY).
 """
@@ -183,7 +183,7 @@ class Started:
             call = [sys.executable, "-m", "zanteyard", "watch", url, "--log", "WARNING"]
             call.append("--trust-clients")
             call += ["--listen", f"127.0.0.1:{listen}", "--metrics", figures]
-            call += ["--conditions"] if name == "followed" else []
+            call += ["--no-conditions"] if name == "audited" else []
         log = open(os.path.join(self.folder, f"{name}.log"), "wb")
         started = subprocess.Popen(
             call, stdin=subprocess.DEVNULL, stdout=log, stderr=log, env=environment, **as_user

@@ -55,10 +55,11 @@ class Words(unittest.TestCase):
             [it for it in call if it.startswith(("--promise", "--rollbacks", "--sample", "--conditions"))]
         )
 
-    def test_conditions_are_followed_if_that_is_asked_for(self):
-        for more in ([], ["--conditions"]):
+    def test_conditions_are_followed_unless_that_is_turned_off(self):
+        for more in ([], ["--conditions"], ["--no-conditions"]):
             asked = parser().parse_args(["watch", "postgresql://a/b", *more])
-            self.assertEqual("--conditions" in call_of("proxy", asked)[0], bool(more))
+            its = [it for it in call_of("proxy", asked)[0] if it.startswith("--conditions")]
+            self.assertEqual(its, ["--conditions=false"] if more == ["--no-conditions"] else [])
 
     def test_aggregates_are_seen_if_that_is_asked_for(self):
         for command in (["watch"], ["proxy", "--redis", "redis://c", "--audit", "d", "--key", "e"]):

@@ -1,4 +1,4 @@
-"""`zanteyard watch --conditions` in front of the applications of examples/rules.py: what they break, by name."""
+"""`zanteyard watch` in front of the applications of examples/rules.py: what they break, by name."""
 import importlib.util
 import os
 import re
@@ -60,7 +60,7 @@ class Rules(unittest.TestCase):
         self.addCleanup(shutil.rmtree, folder, ignore_errors=True)
         self.told, self.status = [], None
         call = [proxy_path(), "--server", self.url, "--listen", f"{folder}/.s.PGSQL.6432"]
-        call += ["--parameters=true", "--trust-clients", "--conditions"]
+        call += ["--parameters=true", "--trust-clients"]
         self.run = Run(Plan(call, PROGRAM, "rules", round_seconds=1.0), self.told.append)
         self.running = threading.Thread(target=self.run_it)
         self.running.start()

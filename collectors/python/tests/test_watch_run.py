@@ -121,8 +121,8 @@ class Runs(InAFolder):
                 "  not checked",
                 f"             3 transactions  {TOLD_APART}",
                 "             7 SELECTs       an aggregate: --aggregates, or select the rows",
-                "             3 SELECTs       it found no row: --conditions, or ask by a whole "
-                "primary key at repeatable read or serializable",
+                "             3 SELECTs       it found no row: see the conditions not followed, or "
+                "ask by a whole primary key at repeatable read or serializable",
                 f"             3 writes        {TOLD_APART}",
                 "             4 rows read     its version is unknown: it was written before the audit, "
                 "or by what isn't audited",
@@ -150,8 +150,8 @@ class Runs(InAFolder):
                 "not checked",
                 "           1 transactions  its outcome is unknown: its connection was lost during "
                 "COMMIT, it was prepared for COMMIT PREPARED, or a procedure committed a part of it",
-                "           2 SELECTs       it found no row: --conditions, or ask by a whole primary "
-                "key at repeatable read or serializable",
+                "           2 SELECTs       it found no row: see the conditions not followed, or ask "
+                "by a whole primary key at repeatable read or serializable",
                 "           2 writes        it found no row",
             ],
         )

@@ -72,8 +72,8 @@ def add_arguments(command: argparse.ArgumentParser) -> None:
         "an answer may then have its rows in another order (docs/SQL.md)",
     )
     command.add_argument(
-        "--conditions", action="store_true",
-        help="also check what SELECTs by a condition passed over (phantoms; docs/SQL.md)",
+        "--conditions", action=argparse.BooleanOptionalAction, default=True,
+        help="whether to check what conditions passed over, too (phantoms; docs/SQL.md)",
     )
     add_clients(command)
     add_sharing(command)
@@ -250,8 +250,8 @@ def call_of(proxy: str, asked: argparse.Namespace) -> tuple[Sequence[str], dict[
         call.append("--rollbacks")
     if asked.aggregates:
         call.append("--aggregates")
-    if asked.conditions:
-        call.append("--conditions")
+    if not asked.conditions:
+        call.append("--conditions=false")
     if asked.sample is not None:
         call.append(f"--sample={asked.sample:g}")
     if asked.tables is not None:

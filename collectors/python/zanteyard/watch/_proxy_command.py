@@ -52,7 +52,7 @@ def add_arguments(command: argparse.ArgumentParser) -> None:
         "an answer may then have its rows in another order (docs/SQL.md)",
     )
     # The audit determines these.
-    command.set_defaults(sample=None, promise=SERIALIZABLE.name, rollbacks=False, conditions=False)
+    command.set_defaults(sample=None, promise=SERIALIZABLE.name, rollbacks=False, conditions=True)
 
 
 def run(asked: argparse.Namespace) -> int:

@@ -7,7 +7,6 @@ import (
 	"sync/atomic"
 
 	"zanteyard/catalog"
-	"zanteyard/record"
 )
 
 const (
@@ -167,15 +166,13 @@ func (c *Cache) find(state *cached, s *scanner, text string, apart bool) *Plan {
 	return p
 }
 
-// follows remembers the tables that a plan asks by a condition.
+// follows remembers the tables that a plan asks by a condition. One by a whole key asks only if it finds no row.
 func (c *Cache) follows(p *Plan) {
 	if p.follow == nil {
 		return
 	}
-	for i := range p.follow.sides {
-		if its := p.follow.sides[i].form; its != nil {
-			c.followed.Store(record.Relation(its.Table.Root), true)
-		}
+	if p.follow.tables = &c.followed; !p.ByKey {
+		p.HasAsked()
 	}
 }
 

@@ -4,6 +4,7 @@ import (
 	"encoding/binary"
 	"math"
 	"strconv"
+	"sync"
 
 	"zanteyard/condition"
 	"zanteyard/keys"
@@ -16,6 +17,7 @@ type follow struct {
 	joins   bool // it has several tables
 	limited bool
 	limit   askedPart
+	tables  *sync.Map // those of which rows' values are wanted, by record.Relation
 }
 
 // side is what is asked of one of them.
@@ -356,8 +358,25 @@ func (f *follow) places(text string, tokens []token) []span {
 	return all
 }
 
+// HasAsked records that a statement asked its tables by conditions that are followed.
+func (p *Plan) HasAsked() {
+	if p.follow == nil || p.follow.tables == nil {
+		return
+	}
+	for i := range p.follow.sides {
+		its := p.follow.sides[i].form
+		if its == nil {
+			continue
+		}
+		relation := record.Relation(its.Table.Root)
+		if _, is := p.follow.tables.Load(relation); !is {
+			p.follow.tables.Store(relation, true)
+		}
+	}
+}
+
 // FollowsTable reports whether a plan was made, by this catalog or an earlier one, that follows a condition on this
-// table's rows.
+// table's rows, or that one by a whole key has asked for a row that isn't there.
 func (c *Cache) FollowsTable(relation record.Relation) bool {
 	_, is := c.followed.Load(relation)
 	return is

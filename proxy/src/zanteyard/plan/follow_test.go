@@ -34,6 +34,14 @@ func TestFollowed(t *testing.T) {
 	if cache.FollowsTable(record.Relation(table.OID)) {
 		t.Error("nothing was planned yet")
 	}
+	byKey, _ := cache.Plan("UPDATE r SET a = 1 WHERE id = 2")
+	if !byKey.Follows() || cache.FollowsTable(record.Relation(table.OID)) {
+		t.Error("values are wanted of a table of which nobody has asked for a row that isn't there")
+	}
+	if byKey.HasAsked(); !cache.FollowsTable(record.Relation(table.OID)) {
+		t.Error("its values aren't wanted")
+	}
+	cache = NewCache(known)
 	for _, x := range []struct {
 		texts string // one with the same plan, made first; "" for none
 		text  string

@@ -40,6 +40,9 @@ type asking struct {
 	why   string // why it isn't followed
 	// writes: it wrote the rows that it got, which the log tells.
 	writes bool
+	// later makes the question of an UPDATE or DELETE by a whole key, nil if it is made. Nearly all of these change their
+	// row, and have asked for nothing then.
+	later  func() plan.Question
 	done   bool
 	place  int32 // among the transaction's, counted from 1, once it is done
 	joined *joined
@@ -69,27 +72,38 @@ func (s *Session) asksBy(st *statement, with condition.Arguments) *asking {
 	case err != nil:
 		it.why = err.Error()
 	case p.Joins():
-		with.Parameters = copied(with.Parameters)
-		with.Formats = append([]int16(nil), with.Formats...)
-		with.Types = append([]uint32(nil), with.Types...)
+		with = kept(with)
 		it.joined = &joined{plan: p, text: st.text, tokens: st.tokens, with: with, found: make([]plan.Found, len(p.Sources)),
 			known: make([]map[record.Key]bool, len(p.Sources))}
+	case it.writes && p.ByKey:
+		with = kept(with)
+		text, tokens := st.text, st.tokens
+		it.later = func() plan.Question { return p.Asks(text, tokens, with) }
 	default:
-		it.Question = p.Asks(st.text, st.tokens, with)
-		it.why = it.Question.Why
+		it.makes(p.Asks(st.text, st.tokens, with))
 	}
 	return it
 }
 
-// copied copies parameters, which are in a message.
-func copied(of [][]byte) [][]byte {
-	all := make([][]byte, len(of))
-	for i, one := range of {
-		if one != nil {
-			all[i] = append([]byte{}, one...)
+func (a *asking) makes(its plan.Question) { a.Question, a.why = its, its.Why }
+
+// kept are the same arguments, without memory of the message that they come from.
+func kept(with condition.Arguments) condition.Arguments {
+	n := 0
+	for _, one := range with.Parameters {
+		n += len(one)
+	}
+	bytes, all := make([]byte, 0, n), make([][]byte, len(with.Parameters))
+	for i, one := range with.Parameters {
+		if one != nil { // nil is NULL, and an empty text isn't
+			from := len(bytes)
+			bytes = append(bytes, one...)
+			all[i] = bytes[from:len(bytes):len(bytes)]
 		}
 	}
-	return all
+	with.Parameters, with.Formats = all, append([]int16(nil), with.Formats...)
+	with.Types = append([]uint32(nil), with.Types...)
+	return with
 }
 
 // gotJoined takes what a row of several tables was made of.
@@ -196,11 +210,15 @@ func (a *asking) foundAny() bool {
 // askedBy records what a statement that has ended has asked for. changed says that it has written rows.
 func (s *Session) askedBy(p *plan.Plan, e *expectation, noted *record.Statement, changed bool) {
 	t, a := &s.tx, e.asking
-	if p.NotFollowed == "" && !p.Follows() || a != nil && a.done || len(t.Asks) > mostConditions {
-		return
+	if !p.Touches() || p.NotFollowed == "" && !p.Follows() || a != nil && a.done || len(t.Asks) > mostConditions {
+		return // of the server's own catalog nothing is asked that counts
 	}
 	if p.ByKey && (changed || a != nil && a.why == "" && a.rows > 0 && !p.Lists()) { // no other row can satisfy it
 		return
+	}
+	if a != nil && a.later != nil {
+		a.makes(a.later())
+		a.later = nil
 	}
 	why := p.NotFollowed
 	switch {
@@ -235,6 +253,7 @@ func (s *Session) askedBy(p *plan.Plan, e *expectation, noted *record.Statement,
 		return
 	}
 	a.done = true
+	p.HasAsked()
 	wrote := e.wrote || changed
 	if a.joined == nil {
 		t.ask(a, a.Question, a.found, wrote)

@@ -92,6 +92,12 @@ func TestAsks(t *testing.T) {
 		{name: "an UPDATE of a row by its key", texts: []string{"UPDATE t SET w = 'z' WHERE id = 1"}, want: ""},
 		{name: "an UPDATE of no row by its key", texts: []string{"BEGIN", "UPDATE t SET w = 'z' WHERE id = 1 AND v = -7", "COMMIT"},
 			want: "t WHERE id = 1 AND v = -7: "},
+		{name: "two of no row by their keys, of which the second one comes before the first one's answer", parsed: []pgproto3.FrontendMessage{
+			&pgproto3.Parse{Query: "UPDATE t SET w = 'z' WHERE id = $1 AND v = $2"}, &pgproto3.Bind{Parameters: [][]byte{[]byte("1"), []byte("-7")}},
+			&pgproto3.Execute{}, &pgproto3.Bind{Parameters: [][]byte{[]byte("2"), []byte("-8")}}, &pgproto3.Execute{}, &pgproto3.Sync{}},
+			want: "t WHERE id = 1 AND v = -7: ; t WHERE id = 2 AND v = -8: "},
+		{name: "the server's own tables", texts: []string{"BEGIN", "SELECT v FROM t WHERE v < 30", "SELECT relname FROM pg_class WHERE relname = 't' LIMIT 1",
+			"COMMIT"}, want: "t WHERE v < 30: 1,2"},
 		{name: "an UPDATE with a function", texts: []string{"BEGIN", "UPDATE t SET w = 'z' WHERE abs(v) = 99", "COMMIT"}, want: "not: a function"},
 		{name: "one with parameters", parsed: []pgproto3.FrontendMessage{&pgproto3.Parse{Query: "UPDATE t SET w = 'z' WHERE v IN ($1, $2)"},
 			&pgproto3.Bind{Parameters: [][]byte{[]byte("-8"), []byte("-9")}}, &pgproto3.Execute{}, &pgproto3.Sync{}}, want: "t WHERE v IN (-8, -9): "},

@@ -15,7 +15,8 @@ REMEDIES: Sequence[tuple[str, str]] = (
     ("it read and wrote no row", "see SELECTs and writes that found no row"),
     ("a statement of it found no row", "see SELECTs and writes that found no row"),
     ("it found no row",
-     "--conditions, or ask by a whole primary key at repeatable read or serializable"),
+     "see the conditions not followed, or ask by a whole primary key at repeatable read or "
+     "serializable"),
     ("reported too late", "the machine, the network or Redis was slow"),
     ("it ended before the audit began", "start the audit some seconds before the application"),
     ("it was under way when the audit began",

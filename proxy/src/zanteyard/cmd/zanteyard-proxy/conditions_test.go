@@ -113,8 +113,8 @@ func TestWriteSkewOverACondition(t *testing.T) {
 		t.Run(fmt.Sprint(x.level, " ", x.followed), func(t *testing.T) {
 			sql(t, direct, "DELETE FROM doctor; INSERT INTO doctor VALUES (1, true), (2, true)")
 			more := []string{"--between", "10h"} // a meeting would fold what runs across it
-			if x.followed {
-				more = append(more, "--conditions")
+			if !x.followed {
+				more = append(more, "--conditions=false")
 			}
 			p := begin(t, c, more...)
 			p.until(`["open"`)
@@ -178,7 +178,7 @@ func TestSkewOverASum(t *testing.T) {
 	defer direct.Close(context.Background())
 	sql(t, direct, "CREATE TABLE spent (id int PRIMARY KEY, account int, amount int); INSERT INTO spent VALUES (1, 7, 10), (2, 8, 10)")
 	const ask = "SELECT sum(amount) FROM spent WHERE account = 7"
-	p := begin(t, c, "--between", "10h", "--conditions")
+	p := begin(t, c, "--between", "10h")
 	p.until(`["open"`)
 	h := &hearing{p: p, g: newGraph()}
 	both := []*pgconn.PgConn{p.connect(), p.connect()}

@@ -452,7 +452,7 @@ func fight(t *testing.T, level string, more ...string) {
 	mixed := level == "read committed"
 	c := start(t, "deadlock_timeout=20ms", "default_transaction_isolation='"+level+"'")
 	sql(t, directly(t, c), "SET default_transaction_isolation = 'read committed'; "+enemySchema+"; ANALYZE")
-	p := begin(t, c, append([]string{"--parameters=false", "--look", "200ms", "--conditions"}, more...)...)
+	p := begin(t, c, append([]string{"--parameters=false", "--look", "200ms"}, more...)...)
 	p.isJudged.Store(true)
 	p.until(`["open"`)
 	b := &battlefield{deeds: map[string]*deeds{}}

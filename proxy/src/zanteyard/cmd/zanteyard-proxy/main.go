@@ -102,7 +102,7 @@ func parse(args []string, errors io.Writer) (flags, error) {
 		"without a failed statement as if they had been committed")
 	set.BoolVar(&f.aggregates, "aggregates", false, "see all aggregates, groups, and what an index may answer alone, also where an "+
 		"answer may then have its rows in another order")
-	set.BoolVar(&f.conditions, "conditions", false, "audit what SELECTs by a condition passed over, too")
+	set.BoolVar(&f.conditions, "conditions", true, "audit what conditions passed over, too, except with --remote and --records")
 	set.Float64Var(&f.join.Sample, "sample", 1, "the `part` of the connections that is audited")
 	set.DurationVar(&f.join.Between, "between", time.Second, "the `time` between two meetings")
 	set.Func("tables", "audit only these tables, given as `patterns` such as public.*, shop.orders", func(text string) (err error) {
@@ -363,7 +363,8 @@ func look(ctx context.Context, f flags, config *pgconn.Config, options *session.
 	}
 	d := definitions.New(config, f.look, options.Log)
 	d.Only(f.tables)
-	if f.conditions && !f.remote {
+	f.conditions = f.conditions && !f.remote && f.records == ""
+	if f.conditions {
 		d.WithConditions()
 	}
 	if !f.aggregates {

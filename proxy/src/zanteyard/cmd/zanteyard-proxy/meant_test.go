@@ -53,7 +53,7 @@ func TestMeantSomethingElse(t *testing.T) {
 	} {
 		t.Run(x.name, func(t *testing.T) {
 			sql(t, direct, "DELETE FROM item; INSERT INTO item VALUES (1, 'taken')")
-			p := begin(t, c, "--conditions", "--between", "10h")
+			p := begin(t, c, "--between", "10h")
 			p.until(`["open"`)
 			h := &hearing{p: p, g: newGraph()}
 			reader, writer := p.connect(), p.connect()

@@ -67,10 +67,11 @@ func (c phantomCondition) inJoin() phantomCondition {
 type phantomAsk struct {
 	by            phantomCondition
 	found         map[int]string
-	own           map[int]bool // keys that the transaction had written before
-	before, after snap         // its snapshot is one of those between
-	locks         bool         // FOR UPDATE
-	alone         bool         // it read these rows, and asked for nothing
+	also          map[int][]string // further rows with the same key: one that the transaction inserted, and one in its snapshot
+	own           map[int]bool     // keys that the transaction had written before
+	before, after snap             // its snapshot is one of those between
+	locks         bool             // FOR UPDATE
+	alone         bool             // it read these rows, and asked for nothing
 }
 
 type phantomTxn struct {
@@ -178,7 +179,7 @@ func (c *phantomClient) transaction(t *phantomTxn) error {
 }
 
 func (c *phantomClient) select_(t *phantomTxn, own map[int]bool) error {
-	it := phantomAsk{by: someCondition(c.r), found: map[int]string{}, own: map[int]bool{}}
+	it := phantomAsk{by: someCondition(c.r), found: map[int]string{}, also: map[int][]string{}, own: map[int]bool{}}
 	for k := range own {
 		it.own[k] = true
 	}
@@ -203,7 +204,15 @@ func (c *phantomClient) select_(t *phantomTxn, own map[int]bool) error {
 	}
 	for _, row := range rows {
 		key, _ := strconv.Atoi(row[0])
-		it.found[key], it.before, it.after = row[1], snapOf(row[2]), snapOf(row[2])
+		switch before, is := it.found[key]; {
+		case !is:
+			it.found[key] = row[1]
+		case row[1] == t.tag: // its own one counts as the key's
+			it.found[key], it.also[key] = row[1], append(it.also[key], before)
+		default:
+			it.also[key] = append(it.also[key], row[1])
+		}
+		it.before, it.after = snapOf(row[2]), snapOf(row[2])
 	}
 	if len(rows) == 0 || it.locks {
 		if rows, err = c.ask("SELECT pg_current_snapshot()"); err != nil {

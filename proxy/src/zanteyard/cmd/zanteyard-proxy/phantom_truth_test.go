@@ -127,10 +127,7 @@ func phantomTruth(txns []*phantomTxn, chains map[int][]phantomVersion) (byRows, 
 						}
 					}
 				}
-				if ask.own[key] || tag == t.tag {
-					continue
-				}
-				if found {
+				read := func(tag string) {
 					for i, v := range its {
 						if v.exists && v.tag == tag {
 							arc(arcs, by(v), n)
@@ -139,6 +136,15 @@ func phantomTruth(txns []*phantomTxn, chains map[int][]phantomVersion) (byRows, 
 							}
 						}
 					}
+				}
+				for _, tag := range ask.also[key] {
+					read(tag)
+				}
+				if ask.own[key] || tag == t.tag {
+					continue
+				}
+				if found {
+					read(tag)
 					continue
 				}
 				saw, sure := ask.passed(its)
@@ -260,8 +266,8 @@ func shownHistory(txns []*phantomTxn, chains map[int][]phantomVersion) string {
 	for _, t := range txns {
 		fmt.Fprintf(&to, "%s, number %d\n", t.tag, t.xid)
 		for _, ask := range t.asks {
-			fmt.Fprintf(&to, "  asked for %s between %v and %v, locks %v, own %v: %v\n", ask.by.text, ask.before, ask.after, ask.locks,
-				ask.own, ask.found)
+			fmt.Fprintf(&to, "  asked for %s between %v and %v, locks %v, own %v: %v %v\n", ask.by.text, ask.before, ask.after,
+				ask.locks, ask.own, ask.found, ask.also)
 		}
 	}
 	for key, its := range chains {

@@ -28,7 +28,7 @@ const (
 // TestPhantoms: random histories with conditions, through the proxy. Nothing is violated that the truth doesn't have
 // violated, and nothing at serializable; of what the truth has violated, most is found.
 func TestPhantoms(t *testing.T) {
-	c := start(t, "max_wal_senders=20", "max_replication_slots=20", "max_connections=150",
+	c := start(t, "max_wal_senders=20", "max_replication_slots=20", "max_connections=200",
 		"deadlock_timeout=10ms") // a second by default, for which most rounds would wait
 	direct, err := pgconn.Connect(context.Background(), sourceOf(c, "postgres"))
 	if err != nil {
@@ -52,8 +52,8 @@ func TestPhantoms(t *testing.T) {
 				if n > phantomRoom {
 					n = phantomRoom
 				}
-				b := &phantomRun{t: t, direct: direct, level: level.name, sums: all, p: begin(t, c, "--conditions", "--between", "10h",
-					"--first-sessions", "64")}
+				b := &phantomRun{t: t, direct: direct, level: level.name, sums: all, p: begin(t, c, "--between", "10h",
+					"--first-sessions", "192")}
 				b.all(*historySeed+int64(done), n)
 				b.p.cancel()
 				t.Logf("%+v", *all)
@@ -67,7 +67,7 @@ func TestPhantoms(t *testing.T) {
 
 const (
 	phantomRoom   = 500 // histories for which an audit without cuts has room
-	phantomGroups = 10  // histories that run at a time, each on a table and connections of its own
+	phantomGroups = 30  // histories that run at a time, each on a table and connections of its own
 )
 
 // phantomSums are what all histories of a level have shown.
