@@ -140,11 +140,13 @@ func phantomTruth(txns []*phantomTxn, chains map[int][]phantomVersion) (byRows, 
 				for _, tag := range ask.also[key] {
 					read(tag)
 				}
-				if ask.own[key] || tag == t.tag {
+				switch {
+				case tag == t.tag:
 					continue
-				}
-				if found {
+				case found: // though it may have inserted another row with that key
 					read(tag)
+					continue
+				case ask.own[key]:
 					continue
 				}
 				saw, sure := ask.passed(its)
