@@ -1,0 +1,7 @@
+//! Tests of histories with times, by the public calls of these libraries.
+#![tactic(auto)]
+
+#[cfg(test)]
+mod histories;
+#[cfg(test)]
+mod times;
