@@ -1,0 +1,52 @@
+package plan
+
+// merged writes a SELECT that makes one row of several, in any order, with conditions that are no error for any row.
+func (w *writer) merged() string {
+	w.say("SELECT")
+	head := w.words
+	w.words = nil
+	w.from()
+	from := w.words
+	w.words = head
+	column := func() string { return w.pick(w.names...) + "." + w.pick("id", "n") }
+	group, one, other := w.Intn(4), column(), column()
+	switch group {
+	case 0:
+		w.say("DISTINCT", w.pick(one, one+", "+other, one+" + 1 AS from", "'x', "+other, w.pick(w.names...)+".id, "+one))
+	case 1:
+		w.say(one, ",", w.pick("count(*)", "array_agg("+other+" ORDER BY "+other+")", "sum("+other+"::float8)", "max("+other+"::text)"))
+	case 2:
+		w.say(w.pick("sum("+one+" / 3.0)", "count(DISTINCT "+other+")", "string_agg("+one+"::text, ',' ORDER BY "+one+")"), ",", "count(*)")
+	case 3:
+		w.say("DISTINCT", "count(*)", ",", one)
+	}
+	w.say(from...)
+	if w.once(2) {
+		w.say("WHERE")
+		for i := w.Intn(3); i >= 0; i-- {
+			switch w.Intn(6) {
+			case 0:
+				w.say(column(), "IN", "(", "SELECT", w.pick("id", "q.n", "DISTINCT n"), "FROM", w.pick(nastyTables[:9]...), "q", "WHERE",
+					"q.n", ">", "1", ")")
+			case 1:
+				w.say(w.pick("NOT", ""), "EXISTS", "(", "SELECT", w.pick("1", "*", ""), "FROM", w.pick(nastyTables[:9]...), "q", "WHERE",
+					"q.id", "=", column(), ")")
+			case 2:
+				w.say(column(), "IS", w.pick("NULL", "NOT NULL"))
+			case 3:
+				w.say(column(), "IN", "(", "1", ",", "2", ",", "3", ")")
+			default:
+				w.say(column(), w.pick("=", "<", ">=", "<>"), w.pick(column(), "3", "'2'", "$1"))
+			}
+			if i > 0 {
+				w.say(w.pick("AND", "OR"))
+			}
+		}
+	}
+	if group == 1 || group == 3 {
+		w.say("GROUP", "BY", one)
+		w.say(w.pick("", "HAVING count(*) > 1", "HAVING max("+other+") > 2"))
+	}
+	w.say(w.pick("", "ORDER BY 1", "ORDER BY 2 DESC", "ORDER BY count(*)"))
+	return w.text()
+}
