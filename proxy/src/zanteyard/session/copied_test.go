@@ -86,6 +86,11 @@ func TestCopiedRows(t *testing.T) {
 			reads, selects, rows, did := 0, uint64(0), uint64(0), []record.Left(nil)
 			for _, it := range p.sink.take() {
 				_, _, its := it.Did.Sum(len(it.Reads))
+				for _, one := range it.Statements {
+					if one.Text == text && x.sees == 1 && one.To-one.From != 5 {
+						t.Errorf("%d reads are noted with the statement", one.To-one.From)
+					}
+				}
 				reads, selects, rows, did = reads+len(it.Reads), selects+uint64(len(it.Did.Selects)), rows+its, append(did, it.Did.Left...)
 			}
 			left := ""

@@ -452,6 +452,9 @@ func (s *Session) leftOut(p *plan.Plan, e *expectation, noted *record.Statement,
 	_, n := counted(tag)
 	s.askedBy(rows(p), e, noted, p.Kind == plan.Write && n > 0)
 	s.sums(p, e, tag, reason)
+	if noted != nil && rows(p).Copied && e.rows > 0 { // its reads were added just now
+		noted.To = len(s.tx.Reads)
+	}
 	if e.hidden > 0 && p.Asked && e.rows == 0 && (e.at == nil || !e.at.counted) {
 		s.absent(p, e, noted)
 	}
