@@ -54,6 +54,13 @@ var joined = []struct{ from, why string }{
 	{"a JOIN b ON a.id = b.a_id AND a.x IN (SELECT abs(c.n) FROM c)", "a column of another table that isn't in its key|a function or subquery over other tables"},
 	{"a JOIN b ON a.id = b.a_id AND a.x IN (SELECT s.id FROM secured s)", "a column of another table that isn't in its key|a function or subquery over other tables"},
 	{"a JOIN b ON a.id = b.a_id AND a.x IN (SELECT v.id FROM viewed v)", "a column of another table that isn't in its key|a function or subquery over other tables"},
+	// A table's name that stands for its rows mentions it.
+	{"a JOIN b ON a.id = b.a_id WHERE EXISTS (SELECT 1 FROM c WHERE c.id = (a).id)",
+		"a function or subquery over other tables|a function or subquery over other tables"},
+	{"a JOIN b ON a.id = b.a_id WHERE EXISTS (SELECT 1 FROM c WHERE a IS NOT NULL)",
+		"a function or subquery over other tables|a function or subquery over other tables"},
+	{"a JOIN b ON a.id = b.a_id WHERE b.z = 1 AND EXISTS (SELECT 1 FROM c WHERE (c.z, c.n) IN (SELECT c.n, c.z))",
+		"a column of another table that isn't in its key|"},
 	{"a JOIN b ON a.id = b.a_id AND a.x::numeric(3) = 1", "a column of another table that isn't in its key|"},
 }
 

@@ -1,6 +1,10 @@
 package condition
 
-import "zanteyard/catalog"
+import (
+	"strings"
+
+	"zanteyard/catalog"
+)
 
 // What the rows of a join's result satisfy, they would satisfy again, beside other rows: if it depends on nothing but
 // them. A function that is called for each pair of rows may say something else of the next one, and so may an operator,
@@ -50,8 +54,8 @@ func (j *joins) namedInside(query any) (all []*scope, unclear bool) {
 		}
 		last := fields[len(fields)-1]
 		for _, one := range j.scopes {
-			if _, has := one.table.Column(last); len(fields) == 1 && (has || systemNames[last]) {
-				unclear = true
+			if _, has := one.table.Column(last); len(fields) == 1 && (has || systemNames[last] || last == one.name) {
+				unclear = true // a table's name stands for its rows
 			}
 			if len(fields) > 1 && fields[len(fields)-2] == one.name {
 				all, unclear = append(all, one), unclear || own[one.name]
@@ -79,6 +83,17 @@ func walk(value any, f func(kind string, body tree) bool) {
 	}
 }
 
+// settledKinds are what a condition may be made of that is settled: whatever else there is may depend on more than it says.
+var settledKinds = map[string]bool{}
+
+func init() {
+	for _, kind := range strings.Fields("SelectStmt ResTarget ColumnRef A_Const ParamRef A_Expr BoolExpr NullTest BooleanTest TypeCast " +
+		"SubLink RangeVar JoinExpr List A_ArrayExpr CaseExpr CaseWhen CoalesceExpr RowExpr A_Star SortBy " +
+		"String Integer Float Boolean BitString Null") {
+		settledKinds[kind] = true
+	}
+}
+
 // settled reports whether a condition that the rows of the result satisfy would be satisfied again.
 func (j *joins) settled(value any) bool {
 	its := true
@@ -88,18 +103,17 @@ func (j *joins) settled(value any) bool {
 		}
 	}
 	visit(value, func(kind string, body tree) {
+		its = its && settledKinds[kind]
 		switch kind {
 		case "SelectStmt":
 			for _, field := range []string{"limitCount", "limitOffset", "lockingClause", "withClause"} {
 				its = its && !body.has(field)
 			}
-		case "FuncCall", "CurrentOfExpr", "RangeTableSample", "RangeTableFunc", "SetToDefault", "JsonTable":
-			its = false
 		case "A_Expr":
 			if pure(body.names("name")...); len(body.text("kind")) > len("AEXPR_OP") {
 				pure("=", "<>", "<", "<=", ">", ">=")
 			}
-		case "CaseExpr", "RowExpr", "SubLink", "NullIfExpr":
+		case "CaseExpr", "RowExpr", "SubLink":
 			pure("=", "<>", "<", "<=", ">", ">=")
 		case "TypeCast":
 			its = its && j.isServers(body.tree("typeName"))

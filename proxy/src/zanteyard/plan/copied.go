@@ -85,12 +85,37 @@ func (m *maker) repeats(p *Plan, body node, start, end int) bool {
 // mayCopy reports whether a query reads only tables, runs nothing that others have made, and has only conditions that are an
 // error for all rows or for none.
 func (m *maker) mayCopy(p *Plan, body node) bool {
+	if !m.havingAlone(body["havingClause"]) {
+		return false
+	}
 	if p.Kind != Select || p.Calls || p.MayWriteUnseen || p.ChangesNames || m.cursor || m.prepared || m.catalog.CastsElsewhere() ||
 		m.runsForeign(node{"SelectStmt": map[string]any(body)}) || !body.has("fromClause") {
 		return false
 	}
 	c := copyable{m: m}
 	return c.from(body["fromClause"], nil) && c.is(body["whereClause"])
+}
+
+// havingAlone reports whether HAVING leaves out groups alone. The server tries a condition without an aggregate on each row
+// instead, also one that is only a part: of BETWEEN, of a row, or behind NOT.
+func (m *maker) havingAlone(value any) bool {
+	switch kind, body := only(value); kind {
+	case "":
+		return true
+	case "BoolExpr":
+		if body.text("boolop") != "AND_EXPR" {
+			return false
+		}
+		for _, one := range body.list("args") {
+			if !m.havingAlone(one) {
+				return false
+			}
+		}
+		return true
+	case "A_Expr":
+		return body.text("kind") == "AEXPR_OP" && !kindFound(value, "RowExpr") && m.aggregates([]any{value})
+	}
+	return false
 }
 
 // copied returns the tables whose rows are listed, and counts the others.

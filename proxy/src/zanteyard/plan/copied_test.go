@@ -29,6 +29,15 @@ ANALYZE`)
 		{"SELECT v, sum(f), json_agg(s) AS from FROM log WHERE v IN (1, 2, 3) GROUP BY v;", true, ""},
 		{"SELECT v AS w, count(*), 'x', NULL, v, $1::int FROM log WHERE v > $1 GROUP BY 1 HAVING count(*) > 2 ORDER BY count(*), 1", true, ""},
 		{"SELECT v, s, count(*) FROM log GROUP BY ROLLUP (v, s)", false, "GROUP BY"},
+		{"SELECT v, array_agg(id) FROM log GROUP BY v HAVING count(*) > 2 AND max(f) < 99", true, ""},
+		// Conditions of HAVING that the server tries on each row.
+		{"SELECT v, array_agg(id) FROM log GROUP BY v HAVING v = 3", false, "GROUP BY"},
+		{"SELECT v, array_agg(id) FROM log GROUP BY v HAVING count(*) > 2 AND v = 3", false, "GROUP BY"},
+		{"SELECT v, array_agg(id) FROM log GROUP BY v HAVING NOT (v = 3 OR count(*) > 99)", false, "GROUP BY"},
+		{"SELECT v, array_agg(id) FROM log GROUP BY v HAVING v BETWEEN 1 AND count(*)", false, "GROUP BY"},
+		{"SELECT v, array_agg(id) FROM log GROUP BY v HAVING (v, count(*)) = (3, 29)", false, "GROUP BY"},
+		{"SELECT v, array_agg(id) FROM log GROUP BY v HAVING $1", false, "GROUP BY"},
+		{"SELECT v, array_agg(id) FROM log GROUP BY v HAVING false", false, "GROUP BY"},
 		{"SELECT DISTINCT l.v, t.s FROM log l JOIN t ON t.id = l.v LEFT JOIN u ON u.t = t.id AND u.w = 'w' WHERE u.id IS NULL", true, ""},
 		{"SELECT DISTINCT l.v FROM log l, bare b", true, "no primary key"},
 		{"SELECT DISTINCT l.v FROM log l LEFT JOIN t ON t.id = l.v", true, "a join that the server may skip"},
@@ -92,6 +101,40 @@ ANALYZE`)
 		with, without := compared(t, connection, p, rewritten, true), compared(t, connection, p, c.text, false)
 		if with.form != without.form || with.form == "" {
 			t.Errorf("%s: its plan has the form\n%s\nwith its copy\n%s", c.text, without.form, with.form)
+		}
+	}
+}
+
+// TestCopiesFindTheSameRows: a statement is left as it is if its copy finds rows in another way, and might meet or lock others,
+// or if it returns rows before it has read all.
+func TestCopiesFindTheSameRows(t *testing.T) {
+	connection := connect(t, "found", schema+`
+CREATE TABLE log (id int PRIMARY KEY, v int, w int, s text COLLATE "C");
+INSERT INTO log SELECT i, i % 400, i % 9, 's' || i % 5 FROM generate_series(1, 4000) i;
+CREATE INDEX by_v ON log (v, w);
+ANALYZE`)
+	cache := NewCache(load(t, connection, catalog.OnlyCertainLists))
+	const groups = "SELECT w, array_agg(id) FROM log WHERE v = 7 GROUP BY w"
+	for _, c := range []struct {
+		set, text string
+		same      bool
+	}{
+		{"", groups, true},
+		{"SET enable_hashagg = off; SET enable_bitmapscan = off", groups, false}, // the groups come in the order of an index
+		{"SET enable_hashagg = off; SET enable_indexscan = off", groups, true},   // they are sorted first
+		{"", "SELECT DISTINCT s FROM log WHERE v < 3 OR w = 5 AND s <> 's1'", true},
+		{"", "SELECT DISTINCT l.s FROM log l JOIN t ON t.id = l.id WHERE l.v IN (3, 4)", true},
+		{"SET enable_hashagg = off; SET enable_sort = off; SET enable_seqscan = off", "SELECT DISTINCT id FROM log WHERE w = 3", false},
+	} {
+		run(t, connection, "RESET ALL; "+c.set)
+		p, tokens := cache.Plan(c.text)
+		if !p.Copied {
+			t.Fatalf("%s isn't copied: %q", c.text, reasons(p))
+		}
+		rewritten, _ := p.Rewrite(c.text, tokens)
+		with, without := compared(t, connection, p, rewritten, true), compared(t, connection, p, c.text, false)
+		if same := with.form != "" && with.form == without.form; same != c.same {
+			t.Errorf("%s: %s: the same is %v: %q, %q", c.set, c.text, same, with.form, without.form)
 		}
 	}
 }

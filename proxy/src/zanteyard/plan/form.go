@@ -2,6 +2,7 @@ package plan
 
 import (
 	"encoding/json"
+	"regexp"
 	"sort"
 	"strings"
 
@@ -27,6 +28,11 @@ type planned struct {
 	Rows      float64   `json:"Plan Rows"`
 	Width     float64   `json:"Plan Width"`
 	Plans     []planned `json:"Plans"`
+	// Of scans, the conditions by which they find rows, and those that they try on each.
+	IndexCond string `json:"Index Cond"`
+	Recheck   string `json:"Recheck Cond"`
+	Filter    string `json:"Filter"`
+	OneTime   string `json:"One-Time Filter"`
 }
 
 // around returns the plan of the statement that a copy is made of, and that of the copy, from the plan of the statement
@@ -49,17 +55,6 @@ func (n *planned) around() (statement, copied *planned) {
 		statement = &statement.Plans[0]
 	}
 	return statement, copied
-}
-
-// looksFurther reports whether a copy reads a table whole that the statement doesn't.
-func (n *planned) looksFurther(copied *planned) bool {
-	its := n.whole(nil)
-	for _, table := range copied.whole(nil) {
-		if !contains(its, table) {
-			return true
-		}
-	}
-	return false
 }
 
 // What is hashed or sorted is split into batches if it takes more memory than the server allows, by default 4 MiB. Wider rows
@@ -120,7 +115,7 @@ func (p *Plan) Form(answer []byte, hidden bool) string {
 func (n *planned) copiedForm(hidden bool) string {
 	if hidden {
 		statement, copied := n.around()
-		if statement == nil || copied == nil || statement.looksFurther(copied) {
+		if statement == nil || copied == nil || !statement.readsAll() || !sameScans(statement, copied) {
 			return ""
 		}
 		n = statement
@@ -129,6 +124,54 @@ func (n *planned) copiedForm(hidden bool) string {
 	var out strings.Builder
 	n.write(&out)
 	return out.String()
+}
+
+// sameScans reports whether a copy finds rows as the statement does: in the same tables, by the same indexes and conditions.
+// Otherwise it might meet rows that the statement doesn't, since the server may move a condition of the statement's to where
+// the copy has none. At serializable it would lock what the statement doesn't.
+func sameScans(statement, copied *planned) bool {
+	its, others := statement.scans(nil), copied.scans(nil)
+	sort.Strings(its)
+	sort.Strings(others)
+	return strings.Join(its, "\n") == strings.Join(others, "\n")
+}
+
+// scans appends what a plan reads, and how it finds that.
+func (n *planned) scans(to []string) []string {
+	if n.Relation != "" || n.Index != "" || n.OneTime != "" {
+		conditions := strings.Join([]string{n.IndexCond, n.Recheck, n.Filter, n.OneTime}, "|")
+		kind := strings.Replace(n.Type, "Index Only Scan", "Index Scan", 1)
+		to = append(to, strings.Join([]string{kind, n.Relation, n.Alias, n.Index, unnumbered.ReplaceAllString(conditions, "$1$2")}, "|"))
+	}
+	for i := range n.Plans {
+		to = n.Plans[i].scans(to)
+	}
+	return to
+}
+
+// unnumbered matches the numbers by which the server tells apart equal names, and parts of a plan.
+var unnumbered = regexp.MustCompile(`_[0-9]+("?\.)|\b(SubPlan |InitPlan )[0-9]+|\$[0-9]+`)
+
+// readsAll reports whether a plan has read all that it reads before it has its first row. Otherwise a client that takes only
+// some rows would have others locked by the copy, at serializable.
+func (n *planned) readsAll() bool {
+	switch {
+	case n.Type == "Sort", n.Type == "Aggregate" && n.Strategy != "Sorted", n.OneTime != "":
+		return true
+	case n.Relation != "" || n.Index != "":
+		return false
+	}
+	outer := (*planned)(nil)
+	for i := range n.Plans {
+		switch its := &n.Plans[i]; its.Place {
+		case "Outer", "Subquery":
+			outer = its
+		case "InitPlan", "SubPlan":
+		default:
+			return false
+		}
+	}
+	return outer == nil || outer.readsAll()
 }
 
 // rename takes off what the server puts behind a name that several tables of a statement have.
