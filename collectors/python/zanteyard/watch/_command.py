@@ -25,8 +25,8 @@ from .outcome._ending import STATUS_WORDS
 from .postgres._facts import findings, server_of, unneeded
 from .violations._groups import KnownFileError, known_in
 from .violations._hooks import Hooks
-from ._options import FORM, URL, add_logging, add_server, address, least_of, percent, share
-from ._options import web_address, whole_of
+from ._options import FORM, HOLD, URL, add_hold, add_logging, add_server, address, least_of
+from ._options import percent, share, web_address, whole_of
 from .postgres._patterns import add_tables_option
 from ._prepare import host_name
 from .proxy._proxy_program import find_proxy
@@ -76,6 +76,7 @@ def add_arguments(command: argparse.ArgumentParser) -> None:
         help="whether to check what conditions passed over, too (phantoms; docs/SQL.md)",
     )
     add_clients(command)
+    add_hold(command)
     add_sharing(command)
     add_tables_option(command, "audit only these tables, such as public.*,shop.orders")
     command.add_argument(
@@ -256,6 +257,8 @@ def call_of(proxy: str, asked: argparse.Namespace) -> tuple[Sequence[str], dict[
         call.append(f"--sample={asked.sample:g}")
     if asked.tables is not None:
         call.append(f"--tables={asked.tables.text}")
+    if asked.hold != HOLD:
+        call.append(f"--hold={asked.hold:g}ms")
     call += [*words_for(asked), *words_of(asked, environment)]
     return call, environment
 

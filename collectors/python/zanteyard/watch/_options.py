@@ -8,6 +8,7 @@ from .violations._hooks import is_web
 from .pages._web import host_and_port
 
 LISTEN = "127.0.0.1:6432"
+HOLD = 3.0  # milliseconds, as the proxy's program has it
 FORM = "%(asctime)s %(levelname)s %(message)s"
 URL = "ZANTEYARD_URL"  # the environment variable for it, so that no list of processes shows it
 
@@ -22,6 +23,14 @@ def add_server(command: argparse.ArgumentParser) -> None:
         "--listen", type=place, metavar="HOST:PORT", default=LISTEN,
         help=f"the address for applications to connect to ({LISTEN}); with a / it is a Unix "
         "socket's path",
+    )
+
+
+def add_hold(command: argparse.ArgumentParser) -> None:
+    command.add_argument(
+        "--hold", type=least_of(0.0), default=HOLD, metavar="MS",
+        help="the longest time, in milliseconds, for which the proxy holds what applications "
+        f"begin, or waits for the trial of a statement ({HOLD:g}; several machines: seven times)",
     )
 
 

@@ -10,7 +10,7 @@ from ..core._visible import say
 from ..promises._kinds import SERIALIZABLE
 from .proxy._clients import add_clients, mistake_in
 from ._command import MISTAKE, add_ending, call_of, control_of
-from ._options import URL, add_server
+from ._options import URL, add_hold, add_server
 from .postgres._patterns import add_tables_option
 from .proxy._proxy_program import find_proxy
 from .proxy._sharing import add_sharing, mistake_of
@@ -36,6 +36,7 @@ def add_arguments(command: argparse.ArgumentParser) -> None:
     command.formatter_class = argparse.RawDescriptionHelpFormatter
     add_server(command)
     add_clients(command)
+    add_hold(command)
     add_sharing(command)
     add_ending(command)
     command.add_argument(

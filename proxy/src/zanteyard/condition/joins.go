@@ -51,7 +51,11 @@ const (
 	outerType    = Refusal("a key of a type that isn't compared with other tables'")
 	locksRows    = Refusal("FOR UPDATE of several tables")
 	noneBeside   = Refusal("a join of no rows, beside which others could stand")
+	manyBeside   = Refusal("a join beside more rows than are compared")
 )
+
+// mostBeside is how many rows of another table one condition compares a row with, unless it is one of equality.
+const mostBeside = 64
 
 // scope is a table of a FROM clause.
 type scope struct {
@@ -469,9 +473,16 @@ func (b *binder) standing(of beside) (part, error) {
 	if len(rows) == 0 {
 		return part{}, noneBeside
 	}
+	byEquality := false
+	if its, ok := of.root.(compared); ok {
+		byEquality = its.is == equal && its.value.outer > 0
+	}
+	if !byEquality && len(rows) > mostBeside {
+		return part{}, manyBeside
+	}
 	sort.Slice(rows, func(i, k int) bool { return rows[i] < rows[k] })
-	if its, ok := of.root.(compared); ok && its.is == equal && its.value.outer > 0 {
-		return b.amongRows(its, rows)
+	if byEquality {
+		return b.amongRows(of.root.(compared), rows)
 	}
 	left, known := b.left, map[string]bool{}
 	var parts []part

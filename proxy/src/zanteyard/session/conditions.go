@@ -19,6 +19,7 @@ const (
 	tooManyAsks  = "more conditions of one transaction than are kept"
 	unclearRow   = "a row whose key isn't known"
 	undoneWrite  = "asked after a write that ROLLBACK TO may have undone"
+	joinOfNone   = "a join of no rows"
 	ofNothing    = "an aggregate of no rows, which doesn't show its table"
 	unclearEnd   = "a transaction whose end isn't known"
 	namesUnsure  = "an UPDATE or DELETE of whose names it isn't certain what they refer to"
@@ -259,7 +260,11 @@ func (s *Session) askedBy(p *plan.Plan, e *expectation, noted *record.Statement,
 		t.ask(a, a.Question, a.found, wrote)
 	} else {
 		j := a.joined
-		for _, one := range j.plan.AsksJoined(j.text, j.tokens, j.with, j.found) {
+		questions := j.plan.AsksJoined(j.text, j.tokens, j.with, j.found)
+		if len(questions) == 0 && a.rows == 0 { // each table by its whole key, of which some row isn't there
+			t.Asks = append(t.Asks, record.Ask{Why: joinOfNone})
+		}
+		for _, one := range questions {
 			var found []record.Key
 			if one.Why == "" {
 				found = j.found[one.Source].Keys

@@ -50,7 +50,7 @@ func (s *Session) again(e *expectation, m []byte) bool {
 	}
 	if u := e.use; u != nil { // also in a block: it would fail in the next one as well
 		u.state, u.generation = failed, s.trust.generation
-		u.reason = "it failed once, because a table had changed"
+		u.reason = "it failed once with the hidden columns"
 		s.options.Shared.drop(s.trust.signature, u.plan)
 	}
 	r := &s.replay
