@@ -199,7 +199,9 @@ func TestIndexOfRangesAndTexts(t *testing.T) {
 	_, all := open(t, "spans", oracleSchema)
 	index := condition.NewIndex(condition.Limits{Conditions: 9, Bytes: 1 << 20, Scanned: 9}, nil)
 	table, _ := all.Find("", "r")
-	for _, where := range []string{"r4 IN ('[1,2]', '[7,8)')", "i4 IN (1, 2)"} {
+	const ofRanges, ofNumbers = "r4 IN ('[1,2]', '[7,8)')", "i4 IN (1, 2)"
+	const always = ofRanges + ", r4 IS NOT DISTINCT FROM '[7,7]'"
+	for _, where := range []string{ofRanges, ofNumbers, "r4 IS NOT DISTINCT FROM '[7,7]'", "i4 IS NOT DISTINCT FROM 7"} {
 		one, err := made(t, all, "SELECT * FROM r WHERE "+where, condition.Arguments{})
 		if err != nil {
 			t.Fatal(err)
@@ -215,9 +217,9 @@ func TestIndexOfRangesAndTexts(t *testing.T) {
 		values[its.Number-1] = condition.Value{Text: text, State: condition.Present}
 		return condition.NewRow(values)
 	}
-	const ofRanges, ofNumbers = "r4 IN ('[1,2]', '[7,8)')", "i4 IN (1, 2)"
-	for _, one := range []struct{ column, text, want string }{
-		{"r4", "[1,3)", ofRanges}, {"i4", "2", ofNumbers + ", " + ofRanges}, {"i4", "3", ofRanges},
+	for _, one := range []struct{ column, text, want string }{ // what asks for a range is tried on all rows
+		{"r4", "[1,3)", always}, {"i4", "2", ofNumbers + ", " + always}, {"i4", "3", always},
+		{"i4", "7", "i4 IS NOT DISTINCT FROM 7, " + always},
 	} {
 		if got := found(index, table.OID, of(one.column, one.text)); got != one.want {
 			t.Errorf("%s %s: %s in place of %s", one.column, one.text, got, one.want)

@@ -180,3 +180,56 @@ func TestManyRowsArePassedOver(t *testing.T) {
 		t.Errorf("%d rows are offered, and %d left out", passed, left)
 	}
 }
+
+// TestRegistersOfOneCondition: a condition has registers of only so many rows, and the others are counted.
+func TestRegistersOfOneCondition(t *testing.T) {
+	row := condition.NewRow(nil)
+	its := &fakeCondition{kind: "y", values: map[*condition.Row][2]int{row: {1, 1}}}
+	b := newBench(t, Options{Sessions: 2})
+	b.connect(1)
+	b.tell(1, 0, record.Transaction{Asks: []record.Ask{{Condition: its, From: b.now}}})
+	for n := uint32(0); n < mostRegisters+20; n++ {
+		b.place += 100
+		b.core.commit(record.Commit{Number: 1001 + n, LSN: b.place, Start: b.place - 50, Writes: []record.Write{
+			{Relation: 1, Key: record.Key(fmt.Sprint(n)), Inserted: true, New: row, Bytes: 10}}})
+	}
+	q := b.core.questions.order.Front().Value.(*question)
+	if n := b.core.counts.leftPassed[tooManyRegisters]; len(q.registers) != mostRegisters || n != 20 {
+		t.Errorf("%d registers, and %d rows left out", len(q.registers), n)
+	}
+}
+
+// TestPassedOverByOneThatIsntReported: who passed over a row waits until it is known whether the writer that hid it is
+// offered.
+func TestPassedOverByOneThatIsntReported(t *testing.T) {
+	row := condition.NewRow(nil)
+	its := &fakeCondition{kind: "y", values: map[*condition.Row][2]int{row: {1, 1}}}
+	b := newBench(t, Options{Sessions: 3})
+	b.connect(1, 2, 3)
+	asks := func(place uint64) {
+		b.tell(1, place, record.Transaction{Level: record.ReadCommitted, Asks: []record.Ask{{Condition: its, From: b.now}}})
+	}
+	commit := func(number uint32, deleted bool) {
+		b.place += 100
+		b.core.commit(record.Commit{Number: number, LSN: b.place, Start: b.place - 50, Writes: []record.Write{
+			{Relation: 1, Key: "a", Inserted: !deleted, Deleted: deleted, New: row, Bytes: 10}}})
+		b.core.advance(b.place)
+	}
+	asks(0)
+	commit(1001, false)
+	b.tell(2, 0, record.Transaction{Number: 1001})
+	b.settle()
+	before := b.core.counts.passed
+	b.later(10 * time.Millisecond)
+	commit(1002, true)
+	asks(1)
+	b.pass()
+	if n := b.core.counts.passed - before; n != 0 {
+		t.Errorf("%d rows are offered before it is known who hid one", n)
+	}
+	b.tell(3, 0, record.Transaction{Number: 1002})
+	b.settle()
+	if n := b.core.counts.passed - before; n != 1+ahead {
+		t.Errorf("%d rows are offered: %v", n, b.core.counts.leftPassed)
+	}
+}
