@@ -83,7 +83,7 @@ func (p *Plan) Complete(values [][]byte, isBinary bool) bool {
 		return ok
 	}
 	if !p.Counts {
-		return true
+		return !p.looksUp || p.looked(values, isBinary)
 	}
 	rows, ok := p.Aggregated(values, isBinary)
 	at := 1

@@ -304,7 +304,8 @@ func (h *hiding) copy() (begin, tail string) {
 			" THEN pg_catalog.string_agg(" + alias + "." + name + ", '') END"
 	}
 	begin = "SELECT " + alias + ".*, CASE WHEN pg_catalog.row_number() OVER () OPERATOR(pg_catalog.=) 1 THEN " +
-		"CASE WHEN pg_catalog.clock_timestamp() OPERATOR(pg_catalog.<) (pg_catalog.statement_timestamp() " +
+		"CASE WHEN " + belowSerializable +
+		" AND pg_catalog.clock_timestamp() OPERATOR(pg_catalog.<) (pg_catalog.statement_timestamp() " +
 		"OPERATOR(pg_catalog.+) '" + strconv.Itoa(int(copiedFor.Milliseconds())) + "ms'::pg_catalog.interval) THEN " +
 		"(SELECT pg_catalog.record_send(ROW(" + countOfRows + lists + ")) FROM (SELECT " + strings.Join(rows, ", ") +
 		", pg_catalog.row_number() OVER () AS " + number + " "

@@ -19,7 +19,7 @@ const aLookup = "rows that are looked up by their key"
 func (f *fromClause) looksUp(it *item, columns map[int16]bool) bool {
 	t, m := it.table, f.maker
 	if !f.outermost || f.lists || f.plan.Kind != Select || m.cursor || m.prepared || m.catalog.Foreign || it.sampled ||
-		t.RowSecurity || t.Planned || t.Kind != 'r' && t.Kind != 'p' {
+		t.RowSecurity || t.Planned || !t.Alone() { // of a table in parts each would be locked, also those that the server leaves out
 		return false
 	}
 	for _, column := range t.Key {
@@ -55,8 +55,32 @@ func (h *hiding) looksUp(it *item) {
 		conditions = append(conditions, alias+"."+name+" OPERATOR(pg_catalog.=) "+quote(it.name)+"."+name)
 	}
 	h.proves(it.written, names)
-	h.value("(SELECT pg_catalog.record_send(ROW(" + strings.Join(append(row, noRow(alias)), ", ") + ")) FROM " + it.written + " AS " +
-		alias + " WHERE " + strings.Join(conditions, " AND ") + ")")
+	h.value("CASE WHEN " + belowSerializable + " THEN (SELECT pg_catalog.record_send(ROW(" + strings.Join(append(row, noRow(alias)), ", ") +
+		")) FROM " + it.written + " AS " + alias + " WHERE " + strings.Join(conditions, " AND ") + ") ELSE ''::pg_catalog.bytea END")
+}
+
+// belowSerializable is a condition of what reads more than the statement itself does: another row, or the same one by another
+// index. At serializable that would be locked, and somebody's transaction might fail that wouldn't have failed.
+const belowSerializable = "pg_catalog.current_setting('transaction_isolation') OPERATOR(pg_catalog.<>) 'serializable'"
+
+// ReadsMore reports whether a statement's hidden columns read more than it does: then they are empty at serializable.
+func (p *Plan) ReadsMore() bool { return p.Copied || p.looksUp }
+
+// looked reports whether the rows of a result's row were looked up.
+func (p *Plan) looked(values [][]byte, isBinary bool) bool {
+	at := p.Hidden()
+	for i := range p.Sources {
+		at -= p.Sources[i].Hidden()
+	}
+	for i := range p.Sources {
+		source := &p.Sources[i]
+		value := values[at]
+		at += source.Hidden()
+		if list, ok := raw(value, isBinary); source.Listed && value != nil && ok && len(list) == 0 {
+			return false
+		}
+	}
+	return true
 }
 
 // isLookup reports whether a part of a plan looks up rows of a result.

@@ -38,7 +38,7 @@ CREATE TABLE odd_keys (n numeric, m int, PRIMARY KEY (n, m)); INSERT INTO odd_ke
 		{"SELECT kind, id FROM people WHERE kind = 'k7'", true, ""},
 		{"SELECT p.kind, u.w FROM people p JOIN u ON u.t = p.id WHERE p.kind = 'k3'", true, ""},
 		{"SELECT u.w, l.b FROM u LEFT JOIN linked l ON l.a = u.t WHERE u.id < 3", true, ""},
-		{"SELECT a FROM pieces WHERE a = 70", true, ""},
+		{"SELECT a FROM pieces WHERE a = 70", false, ByIndex}, // each partition would be locked
 		{"SELECT m, who, yes FROM moods WHERE who IN ('w7', 'w8') AND m = 'sad' AND yes = false", true, ""},
 		{"SELECT b FROM linked WHERE a = 7 FOR UPDATE", false, ""},
 		{"SELECT note FROM linked WHERE a = 7", false, ""},

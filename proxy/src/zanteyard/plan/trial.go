@@ -30,6 +30,9 @@ func (p *Plan) functions() (all []string) {
 	if p.looksUp {
 		all = append(all, equalities...)
 	}
+	if p.ReadsMore() {
+		all = append(all, "textne")
+	}
 	return all
 }
 

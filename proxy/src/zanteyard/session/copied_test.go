@@ -1,6 +1,7 @@
 package session
 
 import (
+	"fmt"
 	"testing"
 
 	"github.com/jackc/pgproto3/v2"
@@ -101,5 +102,60 @@ func TestCopiedRows(t *testing.T) {
 				t.Errorf("%d reads, %d SELECTs and %d rows are told; left out: %+v", reads, selects, rows, did)
 			}
 		})
+	}
+}
+
+// TestLocksNoMore: at serializable a statement locks through the proxy what it locks by itself, also one of which rows would
+// be asked for once more, or looked up. These are then left out, and counted.
+func TestLocksNoMore(t *testing.T) {
+	needServer(t)
+	sql(t, fill)
+	sql(t, `DROP TABLE IF EXISTS wide; CREATE TABLE wide (id int PRIMARY KEY, x int, y text);
+		INSERT INTO wide SELECT i, i % 5000, repeat('y', 40) FROM generate_series(1, 5000) i; CREATE INDEX by_x ON wide (x);
+		DROP TABLE IF EXISTS linking; CREATE TABLE linking (a int PRIMARY KEY, b int);
+		INSERT INTO linking SELECT i * 2, i % 1000 FROM generate_series(1, 20000) i; CREATE INDEX by_b ON linking (b, a)`)
+	sql(t, "VACUUM ANALYZE wide, linking")
+	const locked = `SELECT string_agg(concat_ws(' ', locktype, relation::regclass, page, tuple), ', ' ORDER BY locktype,
+		relation::regclass::text, page, tuple) FROM pg_locks WHERE mode = 'SIReadLock' AND pid = pg_backend_pid()`
+	plain, p := direct(t, "postgres"), through(t, "postgres", knowing(t, catalog.OnlyCertainLists))
+	for _, x := range []struct {
+		text string // with %d
+		wide []int  // constants: the first is tried
+		told int    // reads of the first one below serializable
+	}{
+		{"SELECT x, count(*) FROM wide WHERE x > %d GROUP BY x ORDER BY count(*) DESC", []int{4990, 2500, 2300}, 9},
+		{"SELECT a FROM linking WHERE b = %d AND a < 40001", []int{5, 6}, 20},
+	} {
+		first := fmt.Sprintf(x.text, x.wide[0])
+		for i := 0; i < 4; i++ {
+			p.warm(first)
+			p.settle()
+		}
+		p.sink.take()
+		p.query(first)
+		p.settle()
+		if got := p.sink.take(); len(got) != 1 || len(got[0].Reads) != x.told {
+			t.Fatalf("%s: %+v", first, got)
+		}
+		for _, constant := range x.wide {
+			text := fmt.Sprintf(x.text, constant)
+			steps := queries("BEGIN ISOLATION LEVEL SERIALIZABLE", text, locked, "COMMIT")
+			got, want := "", ""
+			for _, one := range steps {
+				want += show(plain.do(one))
+			}
+			for _, one := range steps {
+				got += show(p.do(one))
+			}
+			p.settle()
+			if got != want {
+				t.Errorf("%s: got\n%s\nand not\n%s", text, got, want)
+			}
+			for _, it := range p.sink.take() {
+				if len(it.Reads) > 0 || len(it.Did.Left) != 1 || it.Did.Left[0].Reason != atSerializable {
+					t.Errorf("%s: %d reads are told, and %+v", text, len(it.Reads), it.Did)
+				}
+			}
+		}
 	}
 }

@@ -86,6 +86,6 @@ func (s *Session) lists(e *expectation, values [][]byte) bool {
 	if p.Complete(values, e.binary) {
 		return true
 	}
-	s.notSeen(p.Shape, tooManyRows, true)
+	s.notSeen(p.Shape, s.whyBeyond(p), true)
 	return false
 }

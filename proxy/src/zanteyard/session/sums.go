@@ -17,7 +17,21 @@ const (
 	// tooManyRows is why an aggregate isn't seen whose list doesn't have all of its rows.
 	tooManyRows = "an aggregate of too many rows, of very long keys, or that took too long"
 	aFunction   = "what a function reads"
+	// atSerializable is why a statement isn't seen whose hidden columns would read, and so lock, more than it does.
+	atSerializable = "rows that would have to be asked for once more, at serializable"
 )
+
+// whyBeyond is why the rows aren't known that a row of a result was made of.
+func (s *Session) whyBeyond(p *plan.Plan) string {
+	level := s.tx.Level
+	if level == record.UnknownLevel {
+		level = s.begins()
+	}
+	if p.ReadsMore() && level == record.Serializable {
+		return atSerializable
+	}
+	return tooManyRows
+}
 
 // sums puts a statement that has ended, and the rows that it returned, in one place (record.Did). reason says why it was
 // sent as it is, "" if it was rewritten or needn't be; p is nil if it isn't known.
@@ -95,7 +109,7 @@ func (s *Session) sumFetched(p *plan.Plan, e *expectation, verb string) {
 	case verb != "FETCH" || e.rows == 0 && (e.hides != nil || !known):
 	case e.hides != nil && len(e.hides.Unseen) == 0:
 		if e.beyond > 0 {
-			s.tx.Did.Leave(tooManyRows, true, 0, 0, uint64(e.beyond))
+			s.tx.Did.Leave(s.whyBeyond(e.hides), true, 0, 0, uint64(e.beyond))
 		}
 		if e.loose > 0 {
 			s.tx.Did.Leave(whyLoose(e.hides), true, 0, 0, uint64(e.loose))
@@ -170,7 +184,7 @@ func (s *Session) sumSelect(p *plan.Plan, e *expectation, reason string, n uint6
 	case e.missed > 0:
 		d.Leave(e.why, e.rows > e.missed, one, 0, uint64(e.missed))
 	case e.beyond > 0:
-		d.Leave(tooManyRows, e.rows > e.beyond, one, 0, uint64(e.beyond+e.loose))
+		d.Leave(s.whyBeyond(p), e.rows > e.beyond, one, 0, uint64(e.beyond+e.loose))
 	case e.loose > 0:
 		d.Leave(whyLoose(p), !p.Lists() || e.rows > e.loose, one, 0, uint64(e.loose))
 	case !isFirst:
@@ -202,7 +216,7 @@ func (s *Session) sumCopied(p *plan.Plan, e *expectation, isFirst bool, n uint64
 	case len(p.Unseen) > 0:
 		reason, inPart = p.Unseen[0].Reason, len(e.copied) > 0
 	case e.beyond > 0:
-		reason = tooManyRows
+		reason = s.whyBeyond(p)
 	case len(e.copied) == 0:
 		reason = foundNoRow
 	case len(d.Selects) >= mostSelects:
