@@ -25,6 +25,7 @@ var (
 func throughAsking(t *testing.T) *proxied {
 	t.Helper()
 	followingOnce.Do(func() {
+		alone(t)
 		var err error
 		following, err = definitions.Open(context.Background(), config(), time.Hour, func(string) {}, catalog.WithColumns)
 		if err != nil {
@@ -55,6 +56,7 @@ func shownAsk(one record.Ask) string {
 // TestAsks: what SELECTs asked for by a condition, with the rows that they got, is reported with their transaction.
 func TestAsks(t *testing.T) {
 	needServer(t)
+	alone(t)
 	sql(t, fill)
 	p := throughAsking(t)
 	texts := []string{"UPDATE t SET w = 'z' WHERE v < 20", "DELETE FROM t WHERE v = -7", "SELECT v FROM t WHERE v < 30", "SELECT v FROM t WHERE v < 40 LIMIT 2", "UPDATE t SET w = 'x' WHERE id = 20",

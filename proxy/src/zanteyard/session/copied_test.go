@@ -15,6 +15,7 @@ import (
 // was read is told, or why it isn't.
 func TestAskedOnceMore(t *testing.T) {
 	needServer(t)
+	alone(t)
 	sql(t, fill)
 	sql(t, listing)
 	sql(t, `DROP TABLE IF EXISTS measured; CREATE TABLE measured (id int PRIMARY KEY, g int, f float8, s text);
@@ -40,6 +41,7 @@ func TestAskedOnceMore(t *testing.T) {
 // only if the client has taken all rows.
 func TestCopiedRows(t *testing.T) {
 	needServer(t)
+	alone(t)
 	sql(t, fill)
 	const text = "SELECT DISTINCT w FROM t WHERE id <= 5"
 	some := func(most uint32) pgproto3.FrontendMessage { return &pgproto3.Execute{Portal: "c", MaxRows: most} }
@@ -109,6 +111,7 @@ func TestCopiedRows(t *testing.T) {
 // be asked for once more, or looked up. These are then left out, and counted.
 func TestLocksNoMore(t *testing.T) {
 	needServer(t)
+	alone(t)
 	sql(t, fill)
 	sql(t, `DROP TABLE IF EXISTS wide; CREATE TABLE wide (id int PRIMARY KEY, x int, y text);
 		INSERT INTO wide SELECT i, i % 5000, repeat('y', 40) FROM generate_series(1, 5000) i; CREATE INDEX by_x ON wide (x);

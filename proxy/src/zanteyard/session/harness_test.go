@@ -75,6 +75,15 @@ SELECT setval('serials_id_seq', 1, false);
 ANALYZE t; ANALYZE u; ANALYZE part; ANALYZE child;
 `
 
+// alone takes away what other tests have made that any statement may call, and the room of the rows that they have deleted:
+// both decide which statements are asked once more, or looked up.
+func alone(t testing.TB) {
+	t.Helper()
+	sql(t, "DROP SCHEMA IF EXISTS m, early, elsewhere, tenant CASCADE")
+	sql(t, "VACUUM FULL t, u, part, child")
+	sql(t, "ANALYZE t, u, part, child")
+}
+
 func TestMain(m *testing.M) {
 	os.Exit(func() int {
 		if flag.Parse(); !*without {

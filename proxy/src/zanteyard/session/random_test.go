@@ -252,6 +252,7 @@ func TestRandomProgramsForCertain(t *testing.T) { randomPrograms(t, catalog.Only
 
 func randomPrograms(t *testing.T, options ...catalog.Option) {
 	needServer(t)
+	alone(t)
 	r := seeded(t)
 	sql(t, tagged)
 	ctx := context.Background()
@@ -274,7 +275,7 @@ func randomPrograms(t *testing.T, options ...catalog.Option) {
 		}
 		all = append(all, w)
 	}
-	h := &historian{t: t, observer: observer, tags: map[uint32]string{}}
+	h := &historian{t: t, observer: observer, tags: map[uint32]string{}, left: map[string]uint64{}}
 	for _, one := range shapes() {
 		if len(options) == 0 || !strings.Contains(one.text, "HAVING") {
 			h.shapes = append(h.shapes, one)
@@ -291,7 +292,7 @@ func randomPrograms(t *testing.T, options ...catalog.Option) {
 	t.Logf("%d transactions, %d reads told, %d of %d rows of statements that are seen, %d numbers", h.ended, h.reads,
 		h.met, h.rows, h.numbers)
 	if h.met*10 < h.rows*6 { // how many plans are left as they are depends on when they are tried
-		t.Errorf("of %d rows only %d were told", h.rows, h.met)
+		t.Errorf("of %d rows only %d were told; left out: %v", h.rows, h.met, h.left)
 	}
 }
 
@@ -301,6 +302,7 @@ type historian struct {
 	tags                             map[uint32]string // the tag for each xmin
 	ended, reads, rows, met, numbers int
 	shapes                           []shape
+	left                             map[string]uint64 // rows, by why they weren't told
 }
 
 // look learns which transaction wrote which rows.
@@ -411,6 +413,9 @@ func (h *historian) has(tag string) bool {
 
 func (h *historian) compareReads(w *walker, tx *record.Transaction, own map[uint32]bool) {
 	is := map[seen]bool{}
+	for _, one := range tx.Did.Left {
+		h.left[one.Reason] += one.Rows
+	}
 	for _, read := range tx.Reads {
 		h.reads++
 		tag, known := h.tags[read.Version]
