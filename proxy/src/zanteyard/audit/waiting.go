@@ -17,7 +17,11 @@ var patience, often = 5 * time.Second, 30 * time.Second
 func (a *Audit) tellWaiting(ctx context.Context, control *slot.Control) (done func()) {
 	ctx, cancel := context.WithCancel(ctx)
 	ended := make(chan struct{})
-	guard.Go("the wait for the slot", func(error) { close(ended) }, func() {
+	failed := func(err error) {
+		a.End(err)
+		close(ended)
+	}
+	guard.Go("the wait for the slot", failed, func() {
 		for timer := time.NewTimer(patience); ; timer.Reset(often) {
 			select {
 			case <-ctx.Done():
