@@ -93,12 +93,18 @@ func (f *faulty) ended() (reason string, is bool) {
 // untilEnded waits for the audit's end, and returns its reason.
 func (f *faulty) untilEnded(what string) string {
 	f.t.Helper()
-	for end := time.Now().Add(2 * time.Minute); ; time.Sleep(time.Millisecond) {
-		if reason, ended := f.ended(); ended {
-			return reason
-		}
-		if time.Now().After(end) {
-			f.t.Fatalf("%s: the audit hasn't ended", what)
+	reason, ended := f.endedBy(time.Now().Add(2 * time.Minute))
+	if !ended {
+		f.t.Fatalf("%s: the audit hasn't ended", what)
+	}
+	return reason
+}
+
+// endedBy waits for the audit's end, and returns its reason, if it comes in time.
+func (f *faulty) endedBy(end time.Time) (reason string, is bool) {
+	for ; ; time.Sleep(time.Millisecond) {
+		if reason, is = f.ended(); is || time.Now().After(end) {
+			return reason, is
 		}
 	}
 }
@@ -160,7 +166,11 @@ func TestFaults(t *testing.T) {
 	for _, place := range places {
 		for number := 1; number <= 4 && number <= visits[place]; number++ {
 			before := time.Now()
-			f.inject(all, place, number)
+			for tries := 1; !f.inject(all, place, number); tries++ {
+				if tries == 5 {
+					t.Fatalf("%s, visit %d: the audit hasn't ended", place, number)
+				}
+			}
 			injected++
 			if took := time.Since(before); took > 2*time.Second {
 				t.Logf("%s, visit %d: %v", place, number, took)
@@ -170,8 +180,9 @@ func TestFaults(t *testing.T) {
 	t.Logf("%d faults", injected)
 }
 
-// inject has one fault happen in an audit of its own.
-func (f *faulty) inject(all *counting, place string, number int) {
+// inject has one fault happen in an audit of its own. It returns false if the audit hasn't ended by that: the end of an
+// earlier connection may be reported, and meet the fault, before the audit begins.
+func (f *faulty) inject(all *counting, place string, number int) bool {
 	f.t.Helper()
 	name := fmt.Sprintf("%s, visit %d", place, number)
 	all.set(place, number)
@@ -187,11 +198,17 @@ func (f *faulty) inject(all *counting, place string, number int) {
 	if spared[place] != "" {
 		all.set("a step", 1)
 		f.untilEnded(name)
-		return
+		return true
 	}
-	reason := f.untilEnded(name)
+	reason, ended := f.endedBy(time.Now().Add(10 * time.Second))
+	if !ended {
+		all.set("a step", 1)
+		f.untilEnded(name)
+		return false
+	}
 	if !strings.Contains(reason, "a fault of the proxy's, in ") || !strings.Contains(reason, fmt.Sprintf("injected at visit %d", number)) {
 		f.t.Errorf("%s: the audit ended because of: %s", name, reason)
 	}
 	f.work()
+	return true
 }
