@@ -1,12 +1,6 @@
 package condition
 
-import (
-	"sort"
-	"strings"
-
-	"zanteyard/catalog"
-	"zanteyard/record"
-)
+import "zanteyard/catalog"
 
 // What a SELECT over several tables asks of one of them depends on the others' rows. For a row of the result, the others'
 // rows in it are constants: whatever row of the table would satisfy the conditions beside them is in the result beside
@@ -35,12 +29,6 @@ type Outer struct {
 	Place  int // among the columns of the table's key
 }
 
-// beside is what a form asks for beside a row of another table.
-type beside struct {
-	name string // by which the statement knows that table
-	root expression
-}
-
 const (
 	otherJoin    = Refusal("a join that isn't followed")
 	notItsKey    = Refusal("a column of another table that isn't in its key")
@@ -53,9 +41,6 @@ const (
 	noneBeside   = Refusal("a join of no rows, beside which others could stand")
 	manyBeside   = Refusal("a join beside more rows than are compared")
 )
-
-// mostBeside is how many rows of another table one condition compares a row with, unless it is one of equality.
-const mostBeside = 64
 
 // scope is a table of a FROM clause.
 type scope struct {
@@ -452,80 +437,4 @@ func (r *reader) outer(names []string) (operand, error) {
 		}
 	}
 	return operand{}, notItsKey
-}
-
-// outer is the value of another table's column in the row that the condition is bound for.
-func (b *binder) outer(of operand) (value, error) {
-	if of.cast != 0 {
-		return value{}, aCast
-	}
-	its := b.form.Outer[of.outer-1]
-	if its.Place >= len(b.row) {
-		return value{}, Refusal("a row of another table that isn't known")
-	}
-	return b.cast(value{typ: its.Column.Base, raw: []byte(b.row[its.Place]), canonical: true, shownAs: its.Column.Type}, 0)
-}
-
-// standing binds what a form asks for beside the rows of another table: it holds of a row that could stand beside one of
-// them.
-func (b *binder) standing(of beside) (part, error) {
-	rows := append([]record.Key(nil), b.with.Beside[of.name]...)
-	if len(rows) == 0 {
-		return part{}, noneBeside
-	}
-	byEquality := false
-	if its, ok := of.root.(compared); ok {
-		byEquality = its.is == equal && its.value.outer > 0
-	}
-	if !byEquality && len(rows) > mostBeside {
-		return part{}, manyBeside
-	}
-	sort.Slice(rows, func(i, k int) bool { return rows[i] < rows[k] })
-	if byEquality {
-		return b.amongRows(of.root.(compared), rows)
-	}
-	left, known := b.left, map[string]bool{}
-	var parts []part
-	for _, row := range rows {
-		b.left, b.row = left, strings.Split(string(row), "\x00")
-		its, err := of.root.bind(b)
-		if err != nil {
-			return part{}, err
-		}
-		if !known[its.key] {
-			known[its.key] = true
-			parts = append(parts, its)
-		}
-	}
-	if b.row = nil; len(parts) == 1 {
-		return parts[0], nil
-	}
-	return joined(parts, false), nil
-}
-
-// amongRows binds column = other.key for several rows of the other table.
-func (b *binder) amongRows(of compared, rows []record.Key) (part, error) {
-	its := &membership{is: equal}
-	shown := make([]string, 0, len(rows))
-	for _, row := range rows {
-		b.row = strings.Split(string(row), "\x00")
-		one, err := b.one(of.value)
-		if err != nil {
-			return part{}, err
-		}
-		column, unknown, err := b.pair(of.column, []value{one}, false)
-		if err != nil {
-			return part{}, err
-		}
-		made, err := b.datum(one, column, unknown)
-		if err != nil {
-			return part{}, err
-		}
-		its.column, its.values, shown = column, append(its.values, made), append(shown, one.shown(unknown))
-	}
-	b.row = nil
-	its.sort()
-	made := part{clause: its, key: its.key(), strength: aTest}
-	made.text, made.shape = among{column: of.column}.words(shown)
-	return made, nil
 }

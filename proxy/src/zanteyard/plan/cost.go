@@ -112,6 +112,9 @@ const Dear = "the hidden columns would make its plan more than a third dearer"
 // Reordered is why a statement is left as it is whose rows might be read in another order with the hidden columns.
 const Reordered = "the hidden columns might change the order in which it reads rows"
 
+// Elsewhere is why a statement is left as it is of which a copy would meet other rows, or meet them in another way.
+const Elsewhere = "asking for its rows once more would find them in another way"
+
 // Uncompared is why a statement is left as it is of which it isn't known whether they would.
 const Uncompared = "its plans with the hidden columns and without them couldn't be compared"
 
@@ -121,6 +124,14 @@ func (p *Plan) WhyDear() string {
 		return ByIndex
 	}
 	return Dear
+}
+
+// WhyReordered returns why a plan isn't used that has another form.
+func (p *Plan) WhyReordered() string {
+	if p.Copied {
+		return Elsewhere
+	}
+	return Reordered
 }
 
 // restFor is how long a statement is left as it is after it has listed or looked up more rows than expected.

@@ -315,7 +315,7 @@ func (s *Session) tried(w *trial) {
 			case u.dear():
 				u.state, u.reason, u.own = failed, rows(u.plan).WhyDear(), tooDear
 			case len(u.forms) == 2 && (u.forms[0] != u.forms[1] || u.forms[0] == ""):
-				u.state, u.reason, u.own = failed, plan.Reordered, reordered
+				u.state, u.reason, u.own = failed, rows(u.plan).WhyReordered(), reordered
 			}
 		case !u.allowed:
 			u.state, u.sample, u.reason = failed, nil, "the connection's user may not read the audit's columns"

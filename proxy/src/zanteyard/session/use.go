@@ -67,7 +67,7 @@ func (t *trust) usable(u *use, sample *statement) bool {
 		if is && own == tooDear {
 			u.state, u.generation, u.reason = failed, t.generation, rows(u.plan).WhyDear()
 		} else if is && own == reordered {
-			u.state, u.generation, u.reason = failed, t.generation, plan.Reordered
+			u.state, u.generation, u.reason = failed, t.generation, rows(u.plan).WhyReordered()
 		} else if is {
 			u.state, u.generation, u.own, u.ran = tried, t.generation, own, true
 		} else if !t.affords(u.plan) {
