@@ -118,6 +118,14 @@ class Documents(unittest.TestCase):
                     with self.subTest(document=name, path=path):
                         self.assertTrue(os.path.exists(os.path.join(TOP, path)))
 
+    @unittest.skipUnless(os.path.isdir(os.path.join(TOP, ".git")), "not a clone")
+    def test_nothing_is_kept_that_a_tool_made(self):
+        """Caches and builds aren't in the repository."""
+        listed = ["git", "-c", "safe.directory=*", "-C", TOP, "ls-files"]
+        names = subprocess.run(listed, stdout=subprocess.PIPE, text=True, check=True).stdout
+        made = re.compile(r"(^|/)(\.?\w+_cache|__pycache__|out|node_modules)/|\.(pyc|whl|deb)$")
+        self.assertEqual([it for it in names.splitlines() if made.search(it)], [])
+
     def test_what_is_there_is_named(self):
         """Benchmarks, packages, the purpose of each module, and the number of edits."""
         text = text_of("CONTRIBUTING.md")
