@@ -10,7 +10,8 @@ use Rattle.logged_fragments.specs.declared.logged.LoggedFragment.{LoggedFragment
 use Rattle.order_check.specs.declared.remainder.Kind.{Kind}
 use Rattle.order_check.specs.StandsFor.{Arrival, IsFenceFrom, history_after}
 use Rattle.order_check.specs.Whole.{ExplainsWhole, HasOrderWhole, HasPendingWhole, IsVerdictWhole}
-use Rattle.snapshot_histories.specs.Halves.{begin_half, commit_half, event_at}
+use Rattle.snapshot_histories.specs.declared.events.Event.{Event}
+use Rattle.snapshot_histories.specs.Halves.{begin_half, commit_half, half_of, event_at}
 use Rattle.snapshot_histories.specs.Logged.{split_logged}
 use Rattle.snapshot_histories.specs.Snapshot.{IsSnapshotOrder, KeepsSnapshotIsolation, IsSnapshotVerdict}
 use Rattle.snapshot_histories.specs.Split.{star, plain_key, begin_txn, commit_txn, split_history, split_of, split_arrival, HistoryCanBeSplit, IsNextArrival}
@@ -23,6 +24,10 @@ SplitKeepsIsolation = (history : History) → HistoryCanBeSplit history → Keep
 -- An order that explains a split history, read as begins and commits, is snapshot isolation.
 abbrev pub OrdersIsolate : Type 0
 OrdersIsolate = (history : History) (order : List TxnId) → ExplainsWhole (split_history history) order → IsSnapshotOrder history (map event_at order)
+
+-- Begins and commits that are snapshot isolation of a history that can be split stand for an order that explains its split history.
+abbrev pub EventsExplain : Type 0
+EventsExplain = (history : History) (events : List Event) → HistoryCanBeSplit history → IsSnapshotOrder history events → ExplainsWhole (split_history history) (map half_of events)
 
 -- A read is pending in a history exactly where one is in its split history.
 abbrev pub SplitKeepsPending : Type 0

@@ -1,4 +1,4 @@
-ghost use Rattle.snapshot_histories.specs.Laws.{SplitKeepsIsolation, OrdersIsolate, SplitKeepsPending, SplitKeepsVerdict, SplitGoesWithArrivals, SplitComesNext, ArrivalsCanBeSplit, SplitIsWellFormed, SplitKeepsFences, SplitDoublesCounts, StarsAreOfKeys, SplitKeepsEffects, EffectsCanBeSplit};
+ghost use Rattle.snapshot_histories.specs.Laws.{SplitKeepsIsolation, OrdersIsolate, EventsExplain, SplitKeepsPending, SplitKeepsVerdict, SplitGoesWithArrivals, SplitComesNext, ArrivalsCanBeSplit, SplitIsWellFormed, SplitKeepsFences, SplitDoublesCounts, StarsAreOfKeys, SplitKeepsEffects, EffectsCanBeSplit};
 
 /// A history keeps snapshot isolation exactly where some order explains its split history.
 pub fn split_keeps_isolation()
@@ -8,6 +8,11 @@ pub fn split_keeps_isolation()
 /// An order that explains a split history, read as begins and commits, is snapshot isolation.
 pub fn orders_isolate()
     ensures { OrdersIsolate }
+{}
+
+/// Begins and commits that are snapshot isolation stand for an order that explains the split history.
+pub fn events_explain()
+    ensures { EventsExplain }
 {}
 
 /// A read is pending in a history exactly where one is in its split history.

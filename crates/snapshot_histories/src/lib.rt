@@ -11,7 +11,7 @@ mod splitting;
 
 pub use events::{Event, event_of};
 pub use laws::{
-    arrivals_can_be_split, effects_can_be_split, orders_isolate, split_comes_next,
+    arrivals_can_be_split, effects_can_be_split, events_explain, orders_isolate, split_comes_next,
     split_doubles_counts, split_goes_with_arrivals, split_is_well_formed, split_keeps_effects,
     split_keeps_fences, split_keeps_isolation, split_keeps_pending, split_keeps_verdict,
     stars_are_of_keys,

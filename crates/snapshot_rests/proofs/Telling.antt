@@ -1,14 +1,16 @@
 -- What remains of a split history tells of the history as it was offered.
-use Rattle.std.proofs.Common.{◌≡◌, ℕ, ◌<◌, ◌^◌, ◌⊎◌, List, ◌∷◌, ◌++◌, take, sym, ap, subst, ◌∙◌, inl, inr}
+use Rattle.std.proofs.Common.{◌≡◌, ℕ, ◌<◌, ◌^◌, ◌⊎◌, List, [], ◌∷◌, ◌++◌, take, refl, sym, ap, subst, ◌∙◌, inl, inr}
 use Rattle.std.specs.Prelude.{map}
 use Rattle.std.proofs.lemmas.List.{map-append}
 use Rattle.txn.specs.declared.transactions.TxnId.{TxnId}
 use Rattle.txn.specs.History.{History, ids_from, session_of, txn_at, IsLastWriter}
 use Rattle.order_check.specs.Based.{mark_of}
+use Rattle.order_check.specs.Whole.{ExplainsWhole}
 use Rattle.gone_orders.specs.Laws.{OrdersBehindAreOfTheWhole, UnwrittenKeysHaveNoLast}
+use Rattle.snapshot_histories.specs.declared.events.Event.{Event}
 use Rattle.snapshot_histories.specs.declared.events.Event.TheVariants.{Begin, Commit}
-use Rattle.snapshot_histories.specs.Halves.{begin_half, commit_half, event_at}
-use Rattle.snapshot_histories.specs.Laws.{OrdersIsolate}
+use Rattle.snapshot_histories.specs.Halves.{begin_half, commit_half, half_of, event_at}
+use Rattle.snapshot_histories.specs.Laws.{EventsExplain, OrdersIsolate}
 use Rattle.snapshot_histories.specs.Snapshot.{IsSnapshotOrder, NoneCommits}
 use Rattle.snapshot_histories.specs.Split.{split_history}
 use Rattle.snapshot_rests.specs.Behind.{CommitsLast}
@@ -23,6 +25,21 @@ half_of_commit half writer e = by_case (half_cases half)
     by_case : ((id : TxnId) × (half ≡ begin_half id)) ⊎ ((id : TxnId) × (half ≡ commit_half id)) → half ≡ commit_half writer
     by_case (inl (id, is)) = let no : Begin id ≡ Commit writer = sym (ap event_at is ∙ begin_at id) ∙ e in absurd cc
     by_case (inr (id, is)) = let both : Commit id ≡ Commit writer = sym (ap event_at is ∙ commit_at id) ∙ e in let same : id ≡ writer = cc in is ∙ ap commit_half same
+
+-- what stands for a half's event is that half
+half_again : (half : TxnId) → half_of (event_at half) ≡ half
+half_again half = by_case (half_cases half)
+  where
+    by_case : ((id : TxnId) × (half ≡ begin_half id)) ⊎ ((id : TxnId) × (half ≡ commit_half id)) → half_of (event_at half) ≡ half
+    by_case (inl (id, is)) = ap half_of (ap event_at is ∙ begin_at id) ∙ sym is
+    by_case (inr (id, is)) = ap half_of (ap event_at is ∙ commit_at id) ∙ sym is
+
+halves_again : (halves : List TxnId) → map half_of (map event_at halves) ≡ halves
+halves_again [] = refl
+halves_again (half ∷ halves) = ap (λ id. id ∷ map half_of (map event_at halves)) (half_again half) ∙ ap (λ ids. half ∷ ids) (halves_again halves)
+
+halves_behind : (past : List TxnId) (events : List Event) → map half_of (map event_at past ++ events) ≡ past ++ map half_of events
+halves_behind past events = map-append half_of (map event_at past) events ∙ ap (λ ids. ids ++ map half_of events) (halves_again past)
 
 last_commits : (past : List TxnId) (history : History) (key : ℕ) (writer : TxnId) → 0 < key → key < 2 ^ 63 → IsLastWriter (txn_at (split_history history)) key past (commit_half writer) → CommitsLast history (map event_at past) key writer
 last_commits past history key writer some low (older, newer, e, writes, none) = (
@@ -45,8 +62,8 @@ commits_last past history key writer some low (older, newer, e, writes, none) = 
       none_writes history key at.after some low (subst (NoneCommits history key) (sym at.back) none),
     )
 
-pub tell_behind : OrdersBehindAreOfTheWhole → UnwrittenKeysHaveNoLast → OrdersIsolate → HalvesTellBehind
-tell_behind of_whole unwritten isolate past parts history behind = record {
+pub tell_behind : OrdersBehindAreOfTheWhole → UnwrittenKeysHaveNoLast → OrdersIsolate → EventsExplain → HalvesTellBehind
+tell_behind of_whole unwritten isolate explain past parts history behind = record {
   gone = λ s.
       let m = mark_of parts s in
       filter_events s past
@@ -55,6 +72,7 @@ tell_behind of_whole unwritten isolate past parts history behind = record {
       ∙ ap (λ txns. take m (map event_at (ids_from s 0 txns))) (session_split history s)
       ∙ ap (take m) (session_events s 0 (session_of history s));
   orders = λ order h. subst (IsSnapshotOrder history) (map-append event_at past order) (isolate history (past ++ order) ((of_whole past parts (split_history history) behind order).0 h));
+  events = λ can events keeps. (of_whole past parts (split_history history) behind (map half_of events)).1 (subst (ExplainsWhole (split_history history)) (halves_behind past events) (explain history (map event_at past ++ events) can keeps));
   last = λ key some low writer. (
     λ is. last_commits past history key writer some low ((behind.last key (commit_half writer)).0 is),
     λ last. (behind.last key (commit_half writer)).1 (commits_last past history key writer some low last),

@@ -8,8 +8,9 @@ use Rattle.order_check.specs.Explains.{Explains}
 use Rattle.snapshot_histories.specs.declared.events.Event.{Event}
 use Rattle.snapshot_histories.specs.declared.events.Event.TheVariants.{Commit}
 use Rattle.snapshot_histories.specs.Events.{event_in_session, events_from}
-use Rattle.snapshot_histories.specs.Halves.{commit_half, event_at}
+use Rattle.snapshot_histories.specs.Halves.{commit_half, half_of, event_at}
 use Rattle.snapshot_histories.specs.Snapshot.{IsSnapshotOrder, NoneCommits}
+use Rattle.snapshot_histories.specs.Split.{HistoryCanBeSplit}
 
 -- With these begins and commits behind those that are gone, all of them are in an order that is snapshot isolation of the whole history.
 abbrev pub KeepsBehind : History → List Event → List Event → Type 0
@@ -25,6 +26,8 @@ pub record TellBehind (past : List Event) (parts : Parts) (history : History) : 
   pub gone : (s : ℕ) → filter (event_in_session s) past ≡ take (mark_of parts s) (events_from s 0 (session_of history s))
   -- each order that explains the parts, read as begins and commits, is behind these one of the whole history that is snapshot isolation
   pub orders : (order : List TxnId) → Explains parts order → KeepsBehind history past (map event_at order)
+  -- and begins and commits that are, behind these, one of the whole history that is snapshot isolation stand for an order that explains the parts
+  pub events : HistoryCanBeSplit history → (events : List Event) → KeepsBehind history past events → Explains parts (map half_of events)
   -- of each key but the epoch key: the last gone writer is the commit of the last version that is committed there, and there is none where none is
   pub last : (key : ℕ) → 0 < key → key < 2 ^ 63 → (writer : TxnId) → (last_gone parts key ≡ Some (commit_half writer)) ↔ CommitsLast history past key writer
   pub none : (key : ℕ) → 0 < key → key < 2 ^ 63 → (last_gone parts key ≡ None) ↔ NoneCommits history key past

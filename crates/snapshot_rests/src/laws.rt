@@ -2,7 +2,7 @@
 ghost use Rattle.snapshot_rests.specs.Laws.{HalvesTellBehind};
 
 use gone_orders::{orders_behind_are_of_the_whole, unwritten_keys_have_no_last};
-use snapshot_histories::orders_isolate;
+use snapshot_histories::{events_explain, orders_isolate};
 
 /// What remains of a split history tells of the history as it was offered, behind the begins and commits that are gone.
 pub fn halves_tell_behind()
@@ -12,4 +12,5 @@ pub fn halves_tell_behind()
     orders_behind_are_of_the_whole();
     unwritten_keys_have_no_last();
     orders_isolate();
+    events_explain();
 }
