@@ -834,9 +834,10 @@ fits_still (stage.Resuming sessions limit opening) (Some accepted) fits = absurd
 fits_still (stage.Handing handed opening) (Some accepted) fits = absurd fits
 
 -- what is kept stands behind what is gone
-kept_open : Laws → (old : AuditState) (accepted : Accepted) → StandsSplit old.engine accepted → IfSome accepted.past (λ gone. ToldBehind gone old.engine accepted.whole accepted.asked)
+kept_open : Laws → (old : AuditState) (accepted : Accepted) → StandsSplit old.engine accepted → IfSome accepted.past (λ gone. HistoryCanBeSplit accepted.whole × HistoryCanBeSplit accepted.asked × ToldBehind gone old.engine accepted.whole accepted.asked)
 kept_open laws old accepted stands =
-    some_map accepted.past (λ gone. HoldsBehind gone old.engine (split_history accepted.whole) (split_history accepted.asked)) (λ gone. ToldBehind gone old.engine accepted.whole accepted.asked) (λ gone. laws.halves gone old.engine accepted.whole accepted.asked) stands.behind
+    some_map accepted.past (λ gone. HoldsBehind gone old.engine (split_history accepted.whole) (split_history accepted.asked)) (λ gone. HistoryCanBeSplit accepted.whole × HistoryCanBeSplit accepted.asked × ToldBehind gone old.engine accepted.whole accepted.asked)
+    (λ gone holds. (stands.holds.whole, stands.holds.asked, laws.halves gone old.engine accepted.whole accepted.asked holds)) stands.behind
 
 are_kept : Laws → (old : Stage) (accepted : Option Accepted) → Fits old accepted → IsKept old accepted
 are_kept laws old None fits = tt

@@ -89,11 +89,11 @@ TellsTrueOf left past history (told.Spent round counts) = counts ≡ map length 
 TellsTrueOf left past history other = ⊤
 
 -- What the engine of a script holds remains of what was accepted, behind what is gone, in this order; or, where transactions are split, tells of it,
--- behind the begins and commits that are gone: so what a show, a save and a cut tell of is that. The open round's snapshot is one of what was accepted
--- when the round began, behind the same.
+-- behind the begins and commits that are gone, exactly, since each transaction of it can be split: so what a show, a save and a cut tell of is that.
+-- The open round's snapshot is one of what was accepted when the round began, behind the same.
 abbrev pub IsKeptBehind : Stage → List TxnId → Accepted → Type 0
 IsKeptBehind (stage.Open audit version) gone accepted = HoldsBehind gone audit.engine accepted.whole accepted.asked
-IsKeptBehind (stage.Isolated audit version) gone accepted = ToldBehind gone audit.engine accepted.whole accepted.asked
+IsKeptBehind (stage.Isolated audit version) gone accepted = HistoryCanBeSplit accepted.whole × HistoryCanBeSplit accepted.asked × ToldBehind gone audit.engine accepted.whole accepted.asked
 IsKeptBehind other gone accepted = ⊥
 
 -- the same of a script, once an engine is open and where the order of what is gone is known
