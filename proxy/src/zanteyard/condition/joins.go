@@ -228,6 +228,8 @@ func (j *joins) side(of *scope, statement map[string]any, text string) (*Form, e
 			asked = append(asked, one)
 		case !j.settled(one): // it may differ from row to row
 			return nil, unsettled
+		default: // if it doesn't hold, the result is empty
+			f.Given = true
 		}
 	}
 	r := &reader{form: f, joins: j}

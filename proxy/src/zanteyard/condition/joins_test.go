@@ -62,6 +62,13 @@ var joined = []struct{ from, why string }{
 	{"a JOIN b ON a.id = b.a_id WHERE b.z = 1 AND EXISTS (SELECT 1 FROM c WHERE (c.z, c.n) IN (SELECT c.n, c.z))",
 		"a column of another table that isn't in its key|"},
 	{"a JOIN b ON a.id = b.a_id AND a.x::numeric(3) = 1", "a column of another table that isn't in its key|"},
+	// What doesn't depend on the table may still empty the result.
+	{"a LEFT JOIN b ON b.a_id = a.id WHERE a.x = 1 AND 1 = 0", "|"},
+	{"a LEFT JOIN b ON b.a_id = a.id WHERE a.x = 1 AND EXISTS (SELECT 1 FROM c WHERE c.n = 99)", "|"},
+	{"a LEFT JOIN b ON b.a_id = a.id WHERE a.x = 1 AND NOT EXISTS (SELECT 1 FROM c WHERE c.n = 99)", "|"},
+	// Names with a schema, and with a database.
+	{"a JOIN b ON public.a.id = b.a_id WHERE public.b.z = 1", "a column of another table that isn't in its key|"},
+	{"a JOIN c ON c.id = a.id AND public.c.n = 1", "|"},
 }
 
 // TestJoined: beside the other tables' rows of a row of the result, what satisfies a table's condition is in the result,
@@ -291,6 +298,34 @@ func TestJoinsRefused(t *testing.T) {
 		}
 		if _, err := condition.Joined(stmt, text, all); err == nil || err.Error() != want {
 			t.Errorf("%s: %v in place of %s", text, err, want)
+		}
+	}
+}
+
+// TestJoinsOfOtherNames: a name that doesn't mean a column of the join's tables is refused for each of them.
+func TestJoinsOfOtherNames(t *testing.T) {
+	_, all := open(t, "joins_of_other_names", joinsSchema)
+	for from, want := range map[string]string{
+		"a, b WHERE other.a.id = b.id":           "an unknown column",
+		"a AS one, b WHERE public.a.id = b.id":   "an unknown column",
+		"a AS b, b AS a WHERE public.b.z = b.id": "an unknown column",
+		"a, b WHERE public.a.b.id = b.id":        "an unknown column",
+		"a, b WHERE one.id = b.id":               "an unknown column",
+		"a, b WHERE id = 1":                      "a column that several tables have",
+	} {
+		text := "SELECT * FROM " + from
+		stmt, err := parsed(t, text)
+		if err != nil {
+			t.Fatal(err)
+		}
+		sides, err := condition.Joined(stmt, text, all)
+		if err != nil {
+			t.Fatalf("%s: %v", from, err)
+		}
+		for _, side := range sides {
+			if side.Form != nil || side.Why == nil || side.Why.Error() != want {
+				t.Errorf("%s: %s is followed, or %v in place of %s", from, side.Name, side.Why, want)
+			}
 		}
 	}
 }

@@ -12,7 +12,7 @@ CREATE EXTENSION citext; CREATE EXTENSION hstore;
 CREATE TYPE pair AS (x int, y int); CREATE DOMAIN pairs AS pair; CREATE TYPE mood AS ENUM ('a', 'b');
 CREATE TABLE w (id int PRIMARY KEY, a int, td text, tc text COLLATE "C", tl text COLLATE loose, ci citext, c char(4), d date,
   ts timestamp, tz timestamptz, iv interval, j jsonb, f float8, p pair, dp pairs, g int GENERATED ALWAYS AS (id * 2) STORED, m mood,
-  r int4range, arr int[], h hstore, u uuid, n numeric, b bool, y bytea, inet inet);
+  r int4range, arr int[], h hstore, u uuid, n numeric, b bool, y bytea, inet inet, rl int8range);
 CREATE TABLE secured (id int PRIMARY KEY, a int); ALTER TABLE secured ENABLE ROW LEVEL SECURITY;
 CREATE TABLE parent (id int PRIMARY KEY, a int); CREATE TABLE child (n int) INHERITS (parent);
 CREATE TABLE parts (id int PRIMARY KEY, a int) PARTITION BY RANGE (id); CREATE TABLE leaf PARTITION OF parts FOR VALUES FROM (0) TO (9);
@@ -160,6 +160,12 @@ func TestRefusals(t *testing.T) {
 		{"", "SELECT * FROM w WHERE a = $1", none, "a parameter that isn't known"},
 		{"", "SELECT * FROM w WHERE a = $1", condition.Arguments{Parameters: [][]byte{{1, 2, 3}}, Formats: []int16{1}}, badValue},
 		{"", "SELECT * FROM w WHERE a = ANY ('{{1,2}}')", none, badValue},
+		{"", "SELECT * FROM w WHERE a = ANY ('')", none, badValue},
+		{"", "SELECT * FROM w WHERE a = ANY ('x1,2}')", none, badValue},
+		{"", "SELECT * FROM w WHERE a = ANY ('{1')", none, badValue},
+		{"", "SELECT * FROM w WHERE r = '[1,2147483647]'", none, badValue},
+		{"", "SELECT * FROM w WHERE rl = '[1,9223372036854775807]'", none, badValue},
+		{"", "SELECT * FROM w WHERE a = 1", condition.Arguments{Constants: []string{"$"}}, "a constant in an unknown form"},
 		{"", "SELECT * FROM w WHERE m IN ('a', 'c')", none, badValue},
 		{"", "SELECT $1, * FROM w WHERE a = $1", types(0), severalPlaces},
 		{"", "SELECT * FROM w WHERE a = $1 OR n = $1", types(0), severalPlaces},
@@ -256,6 +262,9 @@ func TestTaken(t *testing.T) {
 		{"", "SELECT * FROM w WHERE a = ANY ($1)", condition.Arguments{Formats: []int16{1}, Parameters: [][]byte{{
 			0, 0, 0, 1, 0, 0, 0, 1, 0, 0, 0, 23, 0, 0, 0, 2, 0, 0, 0, 1, 0, 0, 0, 4, 0, 0, 0, 7, 255, 255, 255, 255}}},
 			"w WHERE a = ANY (ARRAY[7, NULL])"},
+		{"", "SELECT * FROM w WHERE a = ANY ('{}') AND tc = $$x$$", condition.Arguments{}, "w WHERE a = ANY (ARRAY[]) AND tc = 'x'"},
+		{"", "SELECT * FROM w WHERE a = 5-- five\nAND n = 1e2", condition.Arguments{}, "w WHERE a = 5 AND n = 100"},
+		{"", "SELECT * FROM w WHERE rl = '[1,2147483647]'", condition.Arguments{}, "w WHERE rl = '[1,2147483647]'"},
 		{"", "SELECT * FROM w WHERE a IN (1)", condition.Arguments{Constants: []string{"5, -6 , /* x */ NULL"}}, "w WHERE a IN (5, -6, NULL)"},
 		{"", "SELECT * FROM w WHERE a = 1", condition.Arguments{Constants: []string{"5, 6"}}, "a constant in an unknown form"},
 		{"", "SELECT * FROM w WHERE a IN (1::int8)", condition.Arguments{Constants: []string{"5, 6"}}, "a constant in an unknown form"},

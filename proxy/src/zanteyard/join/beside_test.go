@@ -25,9 +25,11 @@ func TestWritersWaitBeside(t *testing.T) {
 		open          []uint64 // when the first one was reported
 		later         time.Duration
 		limit         int
+		quiet         bool // a moment is before both
 		waits, skewed bool
 	}{
 		{name: "the other one is open", open: []uint64{2}, later: 50 * time.Millisecond, waits: true, skewed: true},
+		{name: "after a moment, with others' writes", open: []uint64{2}, later: 50 * time.Millisecond, quiet: true, waits: true, skewed: true},
 		{name: "nothing is open", later: 50 * time.Millisecond},
 		{name: "no longer than for late reports", open: []uint64{2}, later: 1100 * time.Millisecond},
 		{name: "not if there is little room", open: []uint64{2}, later: 50 * time.Millisecond, limit: 4},
@@ -47,9 +49,17 @@ func TestWritersWaitBeside(t *testing.T) {
 					{Relation: 1, Key: key, Inserted: true, New: row, Bytes: 10}}})
 				b.core.advance(b.place)
 			}
+			if x.quiet {
+				b.later(step).quiet()
+				b.later(step)
+			}
 			began, place := b.now, uint64(x.limit)
-			insert(1001, "a")
-			b.tell(1, place, record.Transaction{Number: 1001, Level: record.ReadCommitted, Began: began,
+			level, shows := record.ReadCommitted, ""
+			if insert(1001, "a"); x.quiet { // somebody else's write is the last one of the row
+				level, shows = record.RepeatableRead, "3:1001:"
+				b.commit(1500, "-a")
+			}
+			b.tell(1, place, record.Transaction{Number: 1001, Level: level, Snapshot: shows, Began: began,
 				Asks: []record.Ask{{Condition: its[0], From: began}}})
 			j := &Joiner{core: b.core, meeter: openRoom{x.open}}
 			b.later(step)
@@ -61,7 +71,7 @@ func TestWritersWaitBeside(t *testing.T) {
 			}
 			b.later(x.later).pass()
 			insert(1002, "b")
-			b.tell(2, 0, record.Transaction{Number: 1002, Level: record.ReadCommitted, Began: began,
+			b.tell(2, 0, record.Transaction{Number: 1002, Level: level, Snapshot: shows, Began: began,
 				Asks: []record.Ask{{Condition: its[1], From: began}}})
 			b.settle()
 			if b.model.explained() == x.skewed {

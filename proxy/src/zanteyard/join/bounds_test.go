@@ -233,3 +233,22 @@ func TestPassedOverByOneThatIsntReported(t *testing.T) {
 		t.Errorf("%d rows are offered: %v", n, b.core.counts.leftPassed)
 	}
 }
+
+// TestAsksThatAreDroppedTwice: a condition that isn't known any more takes no room that could be given back, and the index
+// may lose one that nobody knows.
+func TestAsksThatAreDroppedTwice(t *testing.T) {
+	b := newBench(t, Options{Sessions: 2})
+	b.connect(1)
+	first, second := &fakeCondition{kind: "x", c: 1}, &fakeCondition{kind: "x", c: 2}
+	b.tell(1, 0, record.Transaction{Asks: []record.Ask{{Condition: first}, {Condition: second}}})
+	q := b.core.questions
+	old, left := q.by[first.Key()], q.by[second.Key()]
+	for i := 0; i < 2; i++ {
+		if q.drop(old); q.bytes != left.size() || len(q.by) != 1 || q.order.Len() != 1 {
+			t.Fatalf("dropped %d times: %d bytes, %d known, %d in order", i+1, q.bytes, len(q.by), q.order.Len())
+		}
+	}
+	if q.drop(nil); q.bytes != left.size() {
+		t.Errorf("%d bytes", q.bytes)
+	}
+}
