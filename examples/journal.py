@@ -4,7 +4,7 @@
     python3 examples/journal.py JOURNAL
 
 The first time it begins a journal, kills the auditor, and then ends as if it were killed itself.
-The second time it continues from the journal, with what isn't in there yet. docs/JOURNAL.md shows
+The second time it continues from the journal, with what isn't in there yet. docs/OPERATION.md shows
 its output.
 """
 import logging

@@ -273,7 +273,7 @@ class Definitions(unittest.TestCase):
         for word in self.told:
             with self.subTest(word=word):
                 self.assertIn(word, defined | structs)
-        self.assertGreater(len(self.told), 250)
+        self.assertGreater(len(self.told), 200)
 
     def test_the_words_of_public_contracts_are_told_of(self):
         for promise, words in PROMISED.items():

@@ -291,8 +291,8 @@ def deeds_of(attempts):
 
 class Samples(unittest.TestCase):
     def shown(self):
-        """The table of docs/IMPORT.md: format, file, verdict."""
-        with open(os.path.join(TOP, "docs/IMPORT.md"), encoding="utf-8") as file:
+        """The table of docs/HISTORIES.md: format, file, verdict."""
+        with open(os.path.join(TOP, "docs/HISTORIES.md"), encoding="utf-8") as file:
             rows = re.findall(r"^\| `([\w-]+)` \| .* \| (.*) \|$", file.read(), re.MULTILINE)
         for form, samples in rows:
             for name, verdict in re.findall(r"`([\w.]+)` (\w+)", samples):

@@ -253,7 +253,7 @@ class Shown(WithJournal):
     def test_what_the_page_shows(self):
         package = os.path.join(test_documents.TOP, "collectors/python")
         environment = {**os.environ, "COBRA_AUDIT": os.path.abspath(PROGRAM), "PYTHONPATH": package}
-        shown = [*test_documents.sessions("docs/JOURNAL.md")]
+        shown = [*test_documents.sessions("docs/OPERATION.md")]
         self.assertEqual(len(shown), 2)
 
         def printed_by(*words):

@@ -53,7 +53,7 @@ def add_file(command: argparse.ArgumentParser, also: str = "") -> None:
     command.add_argument(
         "script",
         metavar="FILE",
-        help="a script, as in docs/FORMATS.md, or another tool's history (docs/IMPORT.md)"
+        help="a script, as in docs/FORMATS.md, or another tool's history (docs/HISTORIES.md)"
         f"{also}; - reads standard input",
     )
     command.add_argument(
@@ -65,7 +65,7 @@ def add_file(command: argparse.ArgumentParser, also: str = "") -> None:
 
 
 def is_journal(path: str) -> bool:
-    """Whether the file is the journal of an audit (docs/JOURNAL.md)."""
+    """Whether the file is the journal of an audit (docs/OPERATION.md)."""
     if not os.path.isfile(path):
         return False
     with open(path, "rb") as file:
@@ -132,7 +132,7 @@ def _history_in(file: IO[bytes], path: str, form: str | None) -> tuple[str | Non
     if form == "FORM":
         raise CantBeAskedError(
             f"{path} is compressed, and can't be a script: if you know its form, name it with "
-            "--form (docs/IMPORT.md)"
+            "--form (docs/HISTORIES.md)"
         )
     return form, whole
 

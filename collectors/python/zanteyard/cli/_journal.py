@@ -14,7 +14,7 @@ from ._told import tell_with_page
 
 
 def add_journal(command: argparse.ArgumentParser) -> None:
-    command.add_argument("script", metavar="JOURNAL", help="the journal's file (docs/JOURNAL.md)")
+    command.add_argument("script", metavar="JOURNAL", help="the journal's file (docs/OPERATION.md)")
     command.set_defaults(run=run_journal)
 
 

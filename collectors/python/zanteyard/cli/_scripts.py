@@ -59,7 +59,7 @@ class Page:
 
 
 def add_check(command: argparse.ArgumentParser) -> None:
-    _add_script(command, ", or an audit's journal (docs/JOURNAL.md)")
+    _add_script(command, ", or an audit's journal (docs/OPERATION.md)")
     _add_promise(command)
     _add_html(command, "of the first violation, or else of the last verdict")
     command.add_argument(

@@ -1,1 +1,1 @@
-"""Turns histories that other tools have saved into scripts (docs/IMPORT.md)."""
+"""Turns histories that other tools have saved into scripts (docs/HISTORIES.md)."""

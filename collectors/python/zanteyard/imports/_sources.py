@@ -2,7 +2,7 @@
 written.
 
 The resulting history is explained by exactly the orders that explain the recording's own values;
-docs/IMPORT.md argues why, case by case. If a value doesn't identify its writer, the file is
+docs/HISTORIES.md argues why, case by case. If a value doesn't identify its writer, the file is
 refused.
 """
 

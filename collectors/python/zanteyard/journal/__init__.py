@@ -1,2 +1,2 @@
-"""The file by which an audit continues after its process or machine has failed (docs/JOURNAL.md):
+"""The file by which an audit continues after its process or machine has failed (docs/OPERATION.md):
 its records, their contents, and when they are written."""

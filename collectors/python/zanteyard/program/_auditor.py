@@ -47,7 +47,7 @@ class Auditor(Intake):
     longer. `program` is the file to start. `run_name` is stored next to each value that sessions
     write; each run needs its own, and gets one by default. `script` names a file for every line
     that the program is given, so that the lines can be replayed. `policy` says how long sessions
-    wait. `journal` names a file that doesn't exist yet (docs/JOURNAL.md): if the program dies,
+    wait. `journal` names a file that doesn't exist yet (docs/OPERATION.md): if the program dies,
     another one is started and brought to the same state. With a journal, all calls raise
     JournalError if it can't be written. A round whose search takes longer than `round_seconds` (60
     by default) is skipped and reported as spent. `promise` is "serializable" or "snapshot"
