@@ -50,8 +50,9 @@ use Rattle.gone_orders.specs.Behind.{RemainsBehind}
 use Rattle.snapshot_histories.specs.Halves.{commit_half, event_at}
 use Rattle.snapshot_histories.specs.Laws.{OrdersIsolate, SplitDoublesCounts, SplitKeepsVerdict}
 use Rattle.snapshot_histories.specs.Snapshot.{IsSnapshotOrder}
-use Rattle.snapshot_histories.specs.Split.{split_history, split_sessions, HistoryCanBeSplit}
-use Rattle.snapshot_scripts.specs.Legal.{IsIsolationOf, HoldsSplit, split_state, SplitStepsAreLegal, SplitStepsFollow, FreshEnginesAreSplit}
+use Rattle.snapshot_histories.specs.Split.{split_history, HistoryCanBeSplit}
+use Rattle.snapshot_scripts.specs.Legal.{IsIsolationOf, HasReceived, HoldsSplit, split_state, NothingIsSplit, SplitStepsAreLegal, SplitStepsFollow, FreshEnginesAreSplit}
+use Rattle.snapshot_scripts.specs.Telling.{CommittedAreOfCommits, HalvedCountsAreWhole}
 use Rattle.snapshot_histories.specs.Logged.{split_logged}
 use Rattle.snapshot_histories.specs.Offered.{CanBeOffered}
 use Rattle.snapshot_scripts.specs.Steps.{split_step, CanBeMade}
@@ -74,7 +75,7 @@ use Rattle.cobra.specs.TrueReports.{Accepted, Origin, accepted_more, accepted_af
 use Rattle.cobra.specs.declared.handing.Handing.{Handing}
 use Rattle.cobra.specs.declared.stages.Stage.{Stage}
 use Rattle.cobra.specs.declared.stages.Stage.TheVariants as stage
-use Rattle.cobra.proofs.Pasts.{IsNoCut, committed_has, goes_behind, some_map, still, with_nothing}
+use Rattle.cobra.proofs.Pasts.{IsNoCut, goes_behind, some_map, still, with_nothing}
 
 -- the state of an engine, beside which this was accepted
 abbrev state_of : EngineState → Accepted → State
@@ -482,6 +483,9 @@ pub record Laws : Type 0 where
   pub doubles : SplitDoublesCounts
   pub isolate : OrdersIsolate
   pub follow : SplitStepsFollow
+  pub nothing : NothingIsSplit
+  pub committed : CommittedAreOfCommits
+  pub halving : HalvedCountsAreWhole
   pub wholes : Wholes
   pub fresh_on : FreshEnginesGoOn
   pub parts_on : LeftPartsGoOn
@@ -512,22 +516,18 @@ isolated_quietly accepted command answer new is_true moves holds = record {
     whatever None = tt
     whatever (Some gone) = tt
 
-split_moves : (left : Bool) (past : Option (List TxnId)) (history : History) (inner : Reply) (ahead : List TxnId) → TellsByOrder left past history inner → MovesTxns inner ahead → MovesHalves (isolated_of inner) ahead
-split_moves left past history (told.Cut fence gone last) ahead tells moves = λ id. (λ has. (committed_has gone id).0 ((moves (commit_half id)).0 has), λ has. (moves (commit_half id)).1 ((committed_has gone id).1 has))
-split_moves left past history (told.Order round kind counts order) ahead tells moves = moves
-split_moves left past history (told.Violated round counts tree) ahead tells moves = moves
-split_moves left past history (told.Spent round counts) ahead tells moves = moves
-split_moves left past history (told.Show marks received closed last remaining) ahead tells moves = moves
-split_moves left past history (told.Events round kind counts order) ahead tells moves = absurd tells
-split_moves left past history (told.Broken round counts tree) ahead tells moves = absurd tells
-split_moves left past history inner ahead tells moves = moves
+split_moves : CommittedAreOfCommits → (left : Bool) (past : Option (List TxnId)) (history : History) (inner : Reply) (ahead : List TxnId) → TellsByOrder left past history inner → MovesTxns inner ahead → MovesHalves (isolated_of inner) ahead
+split_moves committed_has left past history (told.Cut fence gone last) ahead tells moves = λ id. (λ has. (committed_has gone id).0 ((moves (commit_half id)).0 has), λ has. (moves (commit_half id)).1 ((committed_has gone id).1 has))
+split_moves committed_has left past history (told.Order round kind counts order) ahead tells moves = moves
+split_moves committed_has left past history (told.Violated round counts tree) ahead tells moves = moves
+split_moves committed_has left past history (told.Spent round counts) ahead tells moves = moves
+split_moves committed_has left past history (told.Show marks received closed last remaining) ahead tells moves = moves
+split_moves committed_has left past history (told.Events round kind counts order) ahead tells moves = absurd tells
+split_moves committed_has left past history (told.Broken round counts tree) ahead tells moves = absurd tells
+split_moves committed_has left past history inner ahead tells moves = moves
 
-halving : (history : History) → halved (map (λ txns. 2 * length txns) history) ≡ map length history
-halving [] = refl
-halving (txns ∷ history) = let half : 2 * length txns / 2 ≡ length txns = omega arith in ap (λ n. n ∷ halved (map (λ txns. 2 * length txns) history)) half ∙ ap (λ rest. length txns ∷ rest) (halving history)
-
-halved_counts : SplitDoublesCounts → (history : History) (counts : List ℕ) → counts ≡ map length (split_history history) → halved counts ≡ map length history
-halved_counts doubles history counts counted = ap halved (counted ∙ (doubles history).counts) ∙ halving history
+halved_counts : SplitDoublesCounts → HalvedCountsAreWhole → (history : History) (counts : List ℕ) → counts ≡ map length (split_history history) → halved counts ≡ map length history
+halved_counts doubles halving history counts counted = ap halved (counted ∙ (doubles history).counts) ∙ halving history
 
 isolation_of : SplitKeepsVerdict → (history : History) (kind : Kind) → HistoryCanBeSplit history → IsTrueOf (split_history history) kind → IsIsolationOf history kind
 isolation_of verdict history kinds.Serial can is = (verdict history kinds.Serial can).1 is
@@ -545,13 +545,13 @@ kept_behind isolate history gone order h = subst (IsSnapshotOrder history) (map-
 -- what is true of the split history is told of the history
 isolated_true : Laws → (left : Bool) (past : Option (List TxnId)) (history : History) (inner : Reply) → HistoryCanBeSplit history → TellsByOrder left past (split_history history) inner → TellsTrueOf left past history (isolated_of inner)
 isolated_true laws left past history (told.Order round kind counts order) can tells = (
-  halved_counts laws.doubles history counts tells.0,
+  halved_counts laws.doubles laws.halving history counts tells.0,
   isolation_of laws.verdict history kind can tells.1,
   λ yes. ends_isolated laws.isolate history order (tells.2 yes),
   some_map past (λ gone. ExplainsWhole (split_history history) (gone ++ order)) (λ gone. KeepsBehind history (map event_at gone) (map event_at order)) (λ gone. kept_behind laws.isolate history gone order) tells.3,
 )
-isolated_true laws left past history (told.Violated round counts tree) can tells = (halved_counts laws.doubles history counts tells.0, isolation_of laws.verdict history kinds.Violated can tells.1)
-isolated_true laws left past history (told.Spent round counts) can tells = halved_counts laws.doubles history counts tells
+isolated_true laws left past history (told.Violated round counts tree) can tells = (halved_counts laws.doubles laws.halving history counts tells.0, isolation_of laws.verdict history kinds.Violated can tells.1)
+isolated_true laws left past history (told.Spent round counts) can tells = halved_counts laws.doubles laws.halving history counts tells
 isolated_true laws left past history (told.Cut fence gone last) can tells = tt
 isolated_true laws left past history (told.Show marks received closed last remaining) can tells = tt
 isolated_true laws left past history (told.Events round kind counts order) can tells = absurd tells
@@ -569,7 +569,8 @@ isolated_step laws sessions old new accepted next asked said can goes stands who
     let after = laws.steps sessions old new asked said can goes.right goes.legal (state_of old accepted) stands.holds in
     let whole : after.0.whole ≡ next.whole = after.1.whole ∙ whole_is in
     let asked_then : after.0.asked ≡ next.asked = after.1.asked ∙ asked_is in
-    let both = laws.follow sessions old new (state_of old accepted) asked said can goes.right stands.holds in
+    let received : HasReceived old.parts (split_history accepted.whole) = record { sessions = stands.holds.holds.parts.sessions; received = stands.holds.holds.parts.received } in
+    let both = laws.follow sessions old new (state_of old accepted) asked said can goes.right received stands.holds.whole stands.holds.asked in
     let behind = goes_behind laws.wholes.past accepted.past old new (split_history accepted.whole) (split_history accepted.asked) (split_step asked) said goes.right stands.behind in
     record {
       holds = record {
@@ -582,13 +583,13 @@ isolated_step laws sessions old new accepted next asked said can goes stands who
         asked = subst HistoryCanBeSplit asked_then after.2.asked;
       };
       left = λ yes.
-          subst (λ (history : History). HoldsLeft new (split_history next.whole) history) (both.1 ∙ ap split_history asked_is)
-          (subst (λ (history : History). HoldsLeft new history (asked_after (split_state (state_of old accepted)) (split_step asked) said)) (both.0 ∙ ap split_history whole_is)
+          subst (λ (history : History). HoldsLeft new (split_history next.whole) history) (both.asked ∙ ap split_history asked_is)
+          (subst (λ (history : History). HoldsLeft new history (asked_after (split_state (state_of old accepted)) (split_step asked) said)) (both.whole ∙ ap split_history whole_is)
           (laws.wholes.on old new (split_history accepted.whole) (split_history accepted.asked) (split_step asked) said goes.right (stands.left (sym left_is ∙ yes))));
       behind =
           subst (λ (past : Option (List TxnId)). IfSome past (λ gone. HoldsBehind gone new (split_history next.whole) (split_history next.asked))) (still accepted.past said behind.ahead quiet behind.moves ∙ sym past_is)
-          (subst (λ (history : History). IfSome (option_map (λ (gone : List TxnId). gone ++ behind.ahead) accepted.past) (λ gone. HoldsBehind gone new (split_history next.whole) history)) (both.1 ∙ ap split_history asked_is)
-          (subst (λ (history : History). IfSome (option_map (λ (gone : List TxnId). gone ++ behind.ahead) accepted.past) (λ gone. HoldsBehind gone new history (asked_after (split_state (state_of old accepted)) (split_step asked) said))) (both.0 ∙ ap split_history whole_is) behind.holds));
+          (subst (λ (history : History). IfSome (option_map (λ (gone : List TxnId). gone ++ behind.ahead) accepted.past) (λ gone. HoldsBehind gone new (split_history next.whole) history)) (both.asked ∙ ap split_history asked_is)
+          (subst (λ (history : History). IfSome (option_map (λ (gone : List TxnId). gone ++ behind.ahead) accepted.past) (λ gone. HoldsBehind gone new history (asked_after (split_state (state_of old accepted)) (split_step asked) said))) (both.whole ∙ ap split_history whole_is) behind.holds));
     }
 
 isolated_offer : Laws → (sessions : ℕ) (old new : EngineState) (accepted : Accepted) (logged : LoggedFragment) (said : StepReply) → CanBeOffered sessions logged.fragment → Goes old (step.Offer (split_logged logged)) said new → StandsSplit old accepted → IsIsolatedOn accepted (Offer logged) (isolated_of (reply_of said)) new
@@ -615,7 +616,7 @@ isolated_rest laws version old new accepted next command inner history is holds 
     record {
       ahead = on.ahead;
       is_true = subst (λ (h : History). TellsTrueOf accepted.left accepted.past h (isolated_of inner)) (sym about) (isolated_true laws accepted.left accepted.past history inner can tells);
-      moves = some_map accepted.past (λ gone. MovesTxns inner on.ahead) (λ gone. MovesHalves (isolated_of inner) on.ahead) (λ gone. split_moves accepted.left accepted.past (split_history history) inner on.ahead tells) on.moves;
+      moves = some_map accepted.past (λ gone. MovesTxns inner on.ahead) (λ gone. MovesHalves (isolated_of inner) on.ahead) (λ gone. split_moves laws.committed accepted.left accepted.past (split_history history) inner on.ahead tells) on.moves;
       holds = subst (λ (a : Accepted). StandsSplit new.engine (moved a on.ahead)) (sym more) (record { holds = record { holds = stands.holds; whole = whole; asked = asked }; left = stands.left; behind = stands.behind });
     }
 
@@ -677,10 +678,6 @@ Begun origin old command answer begun = Fits (stage_after old begun) (accepted_a
 along_begun : (origin : Origin) (old : Stage) (command : Command) (answer : Reply) (begun is : Option Stage) → begun ≡ is → Begun origin old command answer is → Begun origin old command answer begun
 along_begun origin old command answer begun is same fits = subst (λ (o : Option Stage). Begun origin old command answer o) (sym same) fits
 
-nothing_split : (m sessions : ℕ) → split_sessions m (no_history sessions) ≡ no_history sessions
-nothing_split m zero = refl
-nothing_split m (suc sessions) = ap (λ rest. [] ∷ rest) (nothing_split (m + 1) sessions)
-
 first_fits : Laws → (origin : Origin) (old : Stage) (command : Command) (answer : Reply) (begun : Option Stage) → Fits old None → AnswersFirst command answer begun → Begun origin old command answer begun
 first_fits laws origin old (Start sessions limit version) told.Done begun none first = along_begun origin old (Start sessions limit version) told.Done begun _ first.2 (record { holds = first.3; left = λ yes. laws.fresh_on (most_sessions version) sessions limit; behind = laws.fresh_behind (most_sessions version) sessions limit })
 first_fits laws origin old (Start sessions limit version) (told.No refusal) begun none first = along_begun origin old (Start sessions limit version) (told.No refusal) begun None first.1 none
@@ -689,8 +686,8 @@ first_fits laws origin old (StartIsolated sessions limit version) told.Done begu
     along_begun origin old (StartIsolated sessions limit version) told.Done begun _ first.2 (record {
       holds = laws.fresh (most_sessions version) sessions (2 * limit) first.3;
       left = λ yes.
-          subst (λ (history : History). HoldsLeft (fresh (most_sessions version) sessions (2 * limit)) history history) (sym (nothing_split 0 sessions)) (laws.fresh_on (most_sessions version) sessions (2 * limit));
-      behind = subst (λ (history : History). HoldsBehind [] (fresh (most_sessions version) sessions (2 * limit)) history history) (sym (nothing_split 0 sessions)) (laws.fresh_behind (most_sessions version) sessions (2 * limit));
+          subst (λ (history : History). HoldsLeft (fresh (most_sessions version) sessions (2 * limit)) history history) (sym (laws.nothing sessions).0) (laws.fresh_on (most_sessions version) sessions (2 * limit));
+      behind = subst (λ (history : History). HoldsBehind [] (fresh (most_sessions version) sessions (2 * limit)) history history) (sym (laws.nothing sessions).0) (laws.fresh_behind (most_sessions version) sessions (2 * limit));
     })
 first_fits laws origin old (StartIsolated sessions limit version) (told.No refusal) begun none first = along_begun origin old (StartIsolated sessions limit version) (told.No refusal) begun None first.1 none
 first_fits laws origin old (StartIsolated sessions limit version) answer begun none first = absurd first

@@ -9,7 +9,8 @@ use engine_pasts::{
 };
 use snapshot_histories::{orders_isolate, split_doubles_counts, split_keeps_verdict};
 use snapshot_scripts::{
-    fresh_engines_are_split, split_engines_stay, split_steps_are_legal, split_steps_follow,
+    committed_are_of_commits, fresh_engines_are_split, halved_counts_are_whole, nothing_is_split,
+    split_engines_stay, split_steps_are_legal, split_steps_follow,
 };
 use whole_orders::{
     fresh_engines_go_on, left_parts_go_on, reported_orders_end_orders, steps_go_on,
@@ -26,6 +27,9 @@ pub fn each_report_is_true()
     split_keeps_verdict();
     split_doubles_counts();
     split_steps_follow();
+    nothing_is_split();
+    committed_are_of_commits();
+    halved_counts_are_whole();
     orders_isolate();
     steps_go_on();
     reported_orders_end_orders();

@@ -1,4 +1,5 @@
 pub mod CheckedLines
+pub mod Earned
 pub mod EarnedReports
 pub mod Fronts
 pub mod NoBraces
@@ -12,4 +13,7 @@ pub mod SplitReplies
 pub mod Stopping
 pub mod Tallies
 pub mod ToldLines
+pub mod TrueIsolated
+pub mod TrueOrdered
+pub mod TrueReplies
 pub mod UnshownReplies

@@ -6,4 +6,5 @@ pub mod Owing
 pub mod Reading
 pub mod RightReports
 pub mod Telling
+pub mod TrueReplies
 pub mod Unshown

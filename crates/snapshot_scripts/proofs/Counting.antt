@@ -7,26 +7,27 @@ use Rattle.txn.specs.declared.transactions.Fragment.{Fragment}
 use Rattle.txn.specs.History.{History, session_of}
 use Rattle.order_check.specs.declared.remainder.Parts.{Parts}
 use Rattle.order_check.specs.Based.{received_count}
-use Rattle.order_check.specs.StandsFor.{More, Joins, Returns, StandsFor}
+use Rattle.order_check.specs.StandsFor.{More, Joins, Returns}
 use Rattle.round_state.specs.Steps.{MayJoin, arrival_of}
 use Rattle.snapshot_histories.specs.Laws.{SplitDoublesCounts}
 use Rattle.snapshot_histories.specs.Split.{split_history, split_of, split_arrival, IsNextArrival}
+use Rattle.snapshot_scripts.specs.Legal.{HasReceived}
 
 -- half of what was received
-half_received : SplitDoublesCounts → (parts : Parts) (whole : History) → StandsFor parts (split_history whole) → (s first : ℕ) → 2 * first ≡ received_count parts s → first ≡ length (session_of whole s)
+half_received : SplitDoublesCounts → (parts : Parts) (whole : History) → HasReceived parts (split_history whole) → (s first : ℕ) → 2 * first ≡ received_count parts s → first ≡ length (session_of whole s)
 half_received doubles parts whole stands s first next =
     let all : 2 * first ≡ 2 * length (session_of whole s) = next ∙ stands.received s ∙ (doubles whole).session s in
     omega (arith, all)
 
-as_many : SplitDoublesCounts → (parts : Parts) (whole : History) → StandsFor parts (split_history whole) → length whole ≡ length parts.remain
+as_many : SplitDoublesCounts → (parts : Parts) (whole : History) → HasReceived parts (split_history whole) → length whole ≡ length parts.remain
 as_many doubles parts whole stands = sym (doubles whole).sessions ∙ stands.sessions
 
-pub more_next : SplitDoublesCounts → (parts : Parts) (whole : History) (fragment : Fragment) → StandsFor parts (split_history whole) → fragment.session < length parts.remain → 2 * fragment.first ≡ received_count parts fragment.session → IsNextArrival whole (More fragment)
+pub more_next : SplitDoublesCounts → (parts : Parts) (whole : History) (fragment : Fragment) → HasReceived parts (split_history whole) → fragment.session < length parts.remain → 2 * fragment.first ≡ received_count parts fragment.session → IsNextArrival whole (More fragment)
 more_next doubles parts whole fragment stands within next =
     (subst (λ n. fragment.session < n) (sym (as_many doubles parts whole stands)) within, half_received doubles parts whole stands fragment.session fragment.first next)
 
 -- the fragment of a join
-pub join_next : SplitDoublesCounts → (parts : Parts) (whole : History) (fragment : Fragment) → StandsFor parts (split_history whole) → MayJoin parts fragment.session → 2 * fragment.first ≡ received_count parts fragment.session → IsNextArrival whole (arrival_of (length whole) fragment)
+pub join_next : SplitDoublesCounts → (parts : Parts) (whole : History) (fragment : Fragment) → HasReceived parts (split_history whole) → MayJoin parts fragment.session → 2 * fragment.first ≡ received_count parts fragment.session → IsNextArrival whole (arrival_of (length whole) fragment)
 join_next doubles parts whole fragment stands may next = by_test (eqb_tells fragment.session (length whole))
   where
     place : fragment.first ≡ length (session_of whole fragment.session)

@@ -5,7 +5,7 @@ use Rattle.txn.specs.History.{History, session_of}
 use Rattle.order_check.specs.StandsFor.{StandsFor}
 use Rattle.round_state.specs.Opening.{no_history, fresh}
 use Rattle.snapshot_histories.specs.Split.{split_sessions, HistoryCanBeSplit}
-use Rattle.snapshot_scripts.specs.Legal.{FreshEnginesAreSplit}
+use Rattle.snapshot_scripts.specs.Legal.{FreshEnginesAreSplit, NothingIsSplit}
 
 nothing_split : (m sessions : ℕ) → split_sessions m (no_history sessions) ≡ no_history sessions
 nothing_split m zero = refl
@@ -18,6 +18,9 @@ nothing_in (suc sessions) (suc s) = nothing_in sessions s
 
 nothing_can : (sessions : ℕ) → HistoryCanBeSplit (no_history sessions)
 nothing_can sessions id txn at = absurd (let none : None ≡ Some txn = sym (ap (λ txns. slice_get txns id.number) (nothing_in sessions id.session)) ∙ at in cc)
+
+pub nothing_is_split : NothingIsSplit
+nothing_is_split sessions = (nothing_split 0 sessions, nothing_can sessions)
 
 pub fresh_split : FreshEnginesAreSplit
 fresh_split most sessions limit holds = record {

@@ -18,7 +18,7 @@ use Rattle.round_state.specs.declared.steps.StepReply.TheVariants as reply
 use Rattle.snapshot_histories.specs.Laws.{ArrivalsCanBeSplit, EffectsCanBeSplit, SplitDoublesCounts, SplitGoesWithArrivals, SplitKeepsEffects, SplitKeepsVerdict}
 use Rattle.snapshot_histories.specs.Split.{split_history, split_arrival, HistoryCanBeSplit, IsNextArrival}
 use Rattle.snapshot_histories.specs.Splittable.{IsSplittable, fragment_of}
-use Rattle.snapshot_scripts.specs.Legal.{IsIsolationOf, IsTrueIsolation, split_state, HoldsSplit, SplitStepsAreLegal, SplitStepsFollow}
+use Rattle.snapshot_scripts.specs.Legal.{IsIsolationOf, IsTrueIsolation, split_state, HasReceived, SplitStepsAreLegal, SplitStepsFollow}
 use Rattle.snapshot_histories.specs.Logged.{split_logged}
 use Rattle.snapshot_histories.specs.Offered.{CanBeOffered}
 use Rattle.snapshot_scripts.specs.Steps.{split_step, CanBeMade}
@@ -35,7 +35,7 @@ pub record Laws : Type 0 where
 -- ---- what was received
 
 -- the history after a step, split, is the split one after the split step; and it can be split
-record Follows (before : State) (step : Step) (said : StepReply) : Type 0 where
+record FollowsWhole (before : State) (step : Step) (said : StepReply) : Type 0 where
   is : whole_after (split_state before) (split_step step) said ≡ split_history (whole_after before step said)
   can : HistoryCanBeSplit (whole_after before step said)
 
@@ -43,12 +43,12 @@ arrived : Laws → (sessions : ℕ) (whole : History) (arrival : Arrival) → Hi
     → (history_after (split_history whole) (split_arrival arrival) ≡ split_history (history_after whole arrival)) × HistoryCanBeSplit (history_after whole arrival)
 arrived laws sessions whole arrival can next splittable = (sym (laws.goes whole arrival next), laws.still sessions whole arrival can next splittable)
 
-offered : Laws → (sessions : ℕ) (old new : EngineState) (before : State) (logged : LoggedFragment) → CanBeOffered sessions logged.fragment → StepsTo old (Offer (split_logged logged)) reply.Done new → HoldsSplit old before → Follows before (Offer logged) reply.Done
-offered laws sessions old new before logged can to holds =
+offered : Laws → (sessions : ℕ) (old new : EngineState) (before : State) (logged : LoggedFragment) → CanBeOffered sessions logged.fragment → StepsTo old (Offer (split_logged logged)) reply.Done new → HasReceived old.parts (split_history before.whole) → HistoryCanBeSplit before.whole → FollowsWhole before (Offer logged) reply.Done
+offered laws sessions old new before logged can to received split =
     let fragment = effects logged in
     let next = to.1.next in
-    let arrival : IsNextArrival before.whole (More fragment) = more_next laws.doubles old.parts before.whole fragment holds.holds.parts next.session.0 next.next in
-    let both = arrived laws sessions before.whole (More fragment) holds.whole arrival (laws.can sessions logged can.splittable) in
+    let arrival : IsNextArrival before.whole (More fragment) = more_next laws.doubles old.parts before.whole fragment received next.session.0 next.next in
+    let both = arrived laws sessions before.whole (More fragment) split arrival (laws.can sessions logged can.splittable) in
     record {
       is = ap (with_fragment (split_history before.whole)) (laws.effects logged) ∙ both.0;
       can = both.1;
@@ -62,13 +62,13 @@ of_test sessions false fragment splittable = splittable
 of_arrival : (sessions count : ℕ) (fragment : Fragment) → IsSplittable sessions fragment → IsSplittable sessions (fragment_of (arrival_of count fragment))
 of_arrival sessions count fragment splittable = of_test sessions (nat_eq fragment.session count) fragment splittable
 
-joined : Laws → (sessions : ℕ) (old new : EngineState) (before : State) (logged : LoggedFragment) → CanBeOffered sessions logged.fragment → StepsTo old (Join (split_logged logged)) reply.Done new → HoldsSplit old before → Follows before (Join logged) reply.Done
-joined laws sessions old new before logged can to holds =
+joined : Laws → (sessions : ℕ) (old new : EngineState) (before : State) (logged : LoggedFragment) → CanBeOffered sessions logged.fragment → StepsTo old (Join (split_logged logged)) reply.Done new → HasReceived old.parts (split_history before.whole) → HistoryCanBeSplit before.whole → FollowsWhole before (Join logged) reply.Done
+joined laws sessions old new before logged can to received split =
     let fragment = effects logged in
     let whole = before.whole in
     let arrival : Arrival = arrival_of (length whole) fragment in
-    let next : IsNextArrival whole arrival = join_next laws.doubles old.parts whole fragment holds.holds.parts to.2.session to.2.next in
-    let both = arrived laws sessions whole arrival holds.whole next (of_arrival sessions (length whole) fragment (laws.can sessions logged can.splittable)) in
+    let next : IsNextArrival whole arrival = join_next laws.doubles old.parts whole fragment received to.2.session to.2.next in
+    let both = arrived laws sessions whole arrival split next (of_arrival sessions (length whole) fragment (laws.can sessions logged can.splittable)) in
     record {
       is =
           ap (λ (f : Fragment). history_after (split_history whole) (arrival_of (length (split_history whole)) f)) (laws.effects logged)
@@ -77,10 +77,10 @@ joined laws sessions old new before logged can to holds =
       can = both.1;
     }
 
-follows : Laws → (sessions : ℕ) (old new : EngineState) (before : State) (step : Step) (said : StepReply) → CanBeMade sessions step → StepsTo old (split_step step) said new → HoldsSplit old before → Follows before step said
-follows laws sessions old new before (Offer logged) reply.Done can to holds = offered laws sessions old new before logged can to holds
-follows laws sessions old new before (Join logged) reply.Done can to holds = joined laws sessions old new before logged can to holds
-follows laws sessions old new before step said can to holds = record { is = refl; can = holds.whole }
+follows : Laws → (sessions : ℕ) (old new : EngineState) (before : State) (step : Step) (said : StepReply) → CanBeMade sessions step → StepsTo old (split_step step) said new → HasReceived old.parts (split_history before.whole) → HistoryCanBeSplit before.whole → FollowsWhole before step said
+follows laws sessions old new before (Offer logged) reply.Done can to received split = offered laws sessions old new before logged can to received split
+follows laws sessions old new before (Join logged) reply.Done can to received split = joined laws sessions old new before logged can to received split
+follows laws sessions old new before step said can to received split = record { is = refl; can = split }
 
 -- and the history of the open round
 record FollowsAsked (before : State) (step : Step) (said : StepReply) : Type 0 where
@@ -92,7 +92,10 @@ follows_asked before Begin reply.Done whole asked = record { is = refl; can = wh
 follows_asked before step said whole asked = record { is = refl; can = asked }
 
 pub both_follow : Laws → SplitStepsFollow
-both_follow laws sessions old new before step said can to holds = ((follows laws sessions old new before step said can to holds).is, (follows_asked before step said holds.whole holds.asked).is)
+both_follow laws sessions old new before step said can to received split split_asked =
+    let whole = follows laws sessions old new before step said can to received split in
+    let asked = follows_asked before step said split split_asked in
+    record { whole = whole.is; asked = asked.is; can = whole.can; can_asked = asked.can }
 
 -- ---- reports
 
@@ -112,7 +115,8 @@ told doubles keeps before said can tells = tt
 pub legal : Laws → SplitStepsAreLegal
 legal laws sessions old new step said can to legally before holds =
     let inner = legally (split_state before) holds.holds in
-    let whole = follows laws sessions old new before step said can to holds in
+    let received : HasReceived old.parts (split_history before.whole) = record { sessions = holds.holds.parts.sessions; received = holds.holds.parts.received } in
+    let whole = follows laws sessions old new before step said can to received holds.whole in
     let asked = follows_asked before step said holds.whole holds.asked in
     let after : State = record { engine = inner.0.engine; whole = whole_after before step said; asked = asked_after before step said } in (
       after,

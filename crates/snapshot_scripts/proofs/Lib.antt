@@ -5,3 +5,4 @@ mod GivenBack
 mod Halves
 mod Legality
 mod SplitLists
+mod Told

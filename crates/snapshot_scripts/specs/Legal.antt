@@ -1,12 +1,14 @@
 -- What an engine of split histories says of the history as it was offered: what an engine says of a whole history, with 'keeps snapshot
 -- isolation' in place of 'some order explains'.
 use Rattle.std.specs.Prelude.{◌≡◌, ℕ, ◌*◌, ⊤, length, map}
-use Rattle.txn.specs.History.{History}
+use Rattle.txn.specs.History.{History, session_of}
+use Rattle.order_check.specs.declared.remainder.Parts.{Parts}
+use Rattle.order_check.specs.Based.{received_count}
 use Rattle.order_check.specs.declared.remainder.Kind.{Kind}
 use Rattle.order_check.specs.declared.remainder.Kind.TheVariants.{Spent}
 use Rattle.round_state.specs.EngineState.{EngineState}
 use Rattle.round_state.specs.Legal.{State, whole_after, asked_after}
-use Rattle.round_state.specs.Opening.{fresh, fresh_state}
+use Rattle.round_state.specs.Opening.{fresh, fresh_state, no_history}
 use Rattle.round_state.specs.Runs.{Holds, StepsLegally}
 use Rattle.round_state.specs.Steps.{StepsTo}
 use Rattle.round_state.specs.declared.reports.Report.{Report}
@@ -64,8 +66,24 @@ SplitStepsAreLegal = (sessions : ℕ) (old new : EngineState) (step : Step) (sai
 abbrev pub FreshEnginesAreSplit : Type 0
 FreshEnginesAreSplit = (most sessions limit : ℕ) → Holds (fresh most sessions limit) (fresh_state most sessions limit) → HoldsSplit (fresh most sessions limit) (fresh_state most sessions limit)
 
--- What a split step makes of the split histories is what the step makes of the histories, split.
+-- A history in which nothing was received is split as it is.
+abbrev pub NothingIsSplit : Type 0
+NothingIsSplit = (sessions : ℕ) → (split_history (no_history sessions) ≡ no_history sessions) × HistoryCanBeSplit (no_history sessions)
+
+-- The parts have received as many of each session as the history has.
+pub record HasReceived (parts : Parts) (history : History) : Type 0 where
+  pub sessions : length history ≡ length parts.remain
+  pub received : (s : ℕ) → received_count parts s ≡ length (session_of history s)
+
+-- What the split step makes of the split histories is what the step makes of the histories, split, and these can be split.
+pub record Follows (before : State) (step : Step) (said : StepReply) : Type 0 where
+  pub whole : whole_after (split_state before) (split_step step) said ≡ split_history (whole_after before step said)
+  pub asked : asked_after (split_state before) (split_step step) said ≡ split_history (asked_after before step said)
+  pub can : HistoryCanBeSplit (whole_after before step said)
+  pub can_asked : HistoryCanBeSplit (asked_after before step said)
+
+-- So it is where the engine has received as many halves as there are, and the histories can be split.
 abbrev pub SplitStepsFollow : Type 0
 SplitStepsFollow =
-    (sessions : ℕ) (old new : EngineState) (before : State) (step : Step) (said : StepReply) → CanBeMade sessions step → StepsTo old (split_step step) said new → HoldsSplit old before
-    → (whole_after (split_state before) (split_step step) said ≡ split_history (whole_after before step said)) × (asked_after (split_state before) (split_step step) said ≡ split_history (asked_after before step said))
+    (sessions : ℕ) (old new : EngineState) (before : State) (step : Step) (said : StepReply) → CanBeMade sessions step → StepsTo old (split_step step) said new
+    → HasReceived old.parts (split_history before.whole) → HistoryCanBeSplit before.whole → HistoryCanBeSplit before.asked → Follows before step said

@@ -5,4 +5,5 @@ pub mod Legal
 pub mod SplitParts
 pub mod Splitting
 pub mod Steps
+pub mod Telling
 pub mod Wholes

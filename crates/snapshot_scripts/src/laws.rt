@@ -1,6 +1,7 @@
 ghost use Rattle.snapshot_scripts.specs.Given.{GivenIsTaken};
-ghost use Rattle.snapshot_scripts.specs.Legal.{FreshEnginesAreSplit, SplitStepsAreLegal, SplitStepsFollow};
+ghost use Rattle.snapshot_scripts.specs.Legal.{FreshEnginesAreSplit, NothingIsSplit, SplitStepsAreLegal, SplitStepsFollow};
 ghost use Rattle.snapshot_scripts.specs.SplitParts.{SplitEnginesStay};
+ghost use Rattle.snapshot_scripts.specs.Telling.{CommittedAreOfCommits, HalvedCountsAreWhole};
 
 use snapshot_histories::{
     arrivals_can_be_split, effects_can_be_split, split_doubles_counts, split_goes_with_arrivals,
@@ -10,6 +11,11 @@ use snapshot_histories::{
 /// A fresh engine is one of split histories.
 pub fn fresh_engines_are_split()
     ensures { FreshEnginesAreSplit }
+{}
+
+/// A history in which nothing was received is split as it is.
+pub fn nothing_is_split()
+    ensures { NothingIsSplit }
 {}
 
 /// What an engine of split histories replies to a split step is right of the history as it was offered.
@@ -36,6 +42,16 @@ pub fn split_steps_follow()
     split_keeps_effects();
     effects_can_be_split();
 }
+
+/// The transactions that are told of halves are those whose commit is among them.
+pub fn committed_are_of_commits()
+    ensures { CommittedAreOfCommits }
+{}
+
+/// Of two halves for each transaction as many are told as there are transactions.
+pub fn halved_counts_are_whole()
+    ensures { HalvedCountsAreWhole }
+{}
 
 /// What is given out of split parts is what is taken where it is handed over.
 pub fn given_is_taken()

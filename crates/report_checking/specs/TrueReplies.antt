@@ -1,0 +1,71 @@
+-- What right replies to a script mean, told of what its lines offered alone, behind one order of what is gone: as the main theorem of cobra has it
+-- of what an auditor writes.
+use Rattle.std.specs.Prelude.{◌≡◌, ◌⊎◌, ℕ, true, List, [], ◌∷◌, ◌++◌, Option, Some, None}
+use Rattle.txn.specs.declared.transactions.TxnId.{TxnId}
+use Rattle.txn.specs.History.{History}
+use Rattle.log_text.specs.declared.commands.Command.{Command}
+use Rattle.log_text.specs.declared.commands.Command.TheVariants.{Round}
+use Rattle.log_text.specs.declared.replies.Reply.{Reply}
+use Rattle.log_text.specs.declared.versions.Opening.{Opening}
+use Rattle.log_text.specs.declared.versions.Opening.TheVariants.{Ordered, Isolated}
+use Rattle.log_text.specs.Replies.{text_of}
+use Rattle.round_state.specs.Legal.{State}
+use Rattle.snapshot_histories.specs.Split.{HistoryCanBeSplit}
+use Rattle.engine_pasts.specs.Holding.{HoldsBehind}
+use Rattle.engine_pasts.specs.Laws.{ToldBehind}
+use Rattle.cobra.specs.Outputs.{Asks}
+use Rattle.cobra.specs.Scripts.{IsBadLine}
+use Rattle.cobra.specs.TrueReports.{MovesHalves, MovesTxns, TellsTrueOf}
+use Rattle.report_checking.specs.Checking.{Checks, IsUnchecked}
+use Rattle.report_checking.specs.OwedLines.{Owes, ScriptState}
+use Rattle.report_checking.specs.Telling.{what_of}
+use Rattle.report_checking.specs.declared.findings.Found.{Found}
+use Rattle.report_checking.specs.declared.findings.Found.TheVariants as found
+
+-- What the report that a command is answered tells of: a round begins with the line itself, and the others end one that is open.
+abbrev pub reported_in : State → Command → History
+reported_in old (Round budget depth workers search) = old.whole
+reported_in old command = old.asked
+
+-- What the engine of an open script holds remains of what was received, behind what is gone, in this order; or, where transactions are split, tells of
+-- it, behind the begins and commits that are gone, exactly, since each transaction of it can be split. The open round's snapshot is one of what had
+-- been received when the round began, behind the same.
+abbrev pub IsKeptIn : Opening → List TxnId → State → Type 0
+IsKeptIn (Ordered version) gone state = HoldsBehind gone state.engine state.whole state.asked
+IsKeptIn (Isolated version) gone state = HistoryCanBeSplit state.whole × HistoryCanBeSplit state.asked × ToldBehind gone state.engine state.whole state.asked
+
+-- the same of a script, where before it is open nothing is gone
+abbrev pub IsKept : Option ScriptState → List TxnId → Type 0
+IsKept None gone = gone ≡ []
+IsKept (Some script) gone = IsKeptIn script.opening gone script.state
+
+-- What a reply puts behind what is gone: a cut the transactions that it tells, or halves whose commits are those of these, and any other reply nothing.
+abbrev pub MovesIn : Opening → Reply → List TxnId → Type 0
+MovesIn (Ordered version) answer ahead = MovesTxns answer ahead
+MovesIn (Isolated version) answer ahead = MovesHalves answer ahead
+
+-- Once a script is open: the reply to the command is true of what was received, and puts these behind what is gone. Before, there are none.
+abbrev pub IsTrueTold : Option ScriptState → List TxnId → Command → Reply → List TxnId → Type 0
+IsTrueTold None gone command answer ahead = ahead ≡ []
+IsTrueTold (Some old) gone command answer ahead = TellsTrueOf true (Some gone) (reported_in old.state command) answer × MovesIn old.opening answer ahead
+
+-- The reply is owed to the line, and true.
+abbrev pub TellsTrue : Option ScriptState → List TxnId → List ℕ → Reply → List TxnId → Option ScriptState → Type 0
+TellsTrue old gone line answer ahead new =
+    ((command : Command) × Asks line command × Owes old command answer new × IsTrueTold old gone command answer ahead)
+    ⊎ (((command : Command) → ¬ Asks line command) × IsBadLine old answer new × (ahead ≡ []))
+
+-- From the beginning of a script on: lines and stored replies by turns, each of which is owed and true, or says that memory was wanting; what is gone,
+-- in an order that a cut makes longer and nothing else changes; and what is kept, which remains behind that. And what is found of the replies.
+pub data ChecksTrue : List (List ℕ) → Option ScriptState → List TxnId → List Found → Type 0 where
+  beginning : ChecksTrue [] None [] []
+  true_reply : (front : List (List ℕ)) (line stored : List ℕ) (at new : Option ScriptState) (gone ahead : List TxnId) (all : List Found) (answer : Reply)
+      → ChecksTrue front at gone all → TellsTrue at gone line answer ahead new → stored ≡ text_of answer → IsKept new (gone ++ ahead)
+      → ChecksTrue (front ++ line ∷ stored ∷ []) new (gone ++ ahead) (all ++ found.Right (what_of answer) ∷ [])
+  left_out : (front : List (List ℕ)) (line stored : List ℕ) (at new : Option ScriptState) (gone : List TxnId) (all : List Found)
+      → ChecksTrue front at gone all → IsUnchecked at line stored new → IsKept new gone
+      → ChecksTrue (front ++ line ∷ stored ∷ []) new gone (all ++ found.Unchecked ∷ [])
+
+-- Whatever is found right is true so.
+abbrev pub RightRepliesAreTrue : Type 0
+RightRepliesAreTrue = (front : List (List ℕ)) (state : Option ScriptState) (all : List Found) → Checks front state all → (gone : List TxnId) × ChecksTrue front state gone all
