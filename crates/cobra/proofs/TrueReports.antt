@@ -1,5 +1,5 @@
 -- Replies whose reports are true of what a script's lines had offered and what was answered ok.
-use Rattle.std.proofs.Common.{◌≡◌, ℕ, zero, suc, ◌+◌, ◌*◌, ◌/◌, arith, Bool, true, false, cond, nat_lt, List, [], ◌∷◌, ◌++◌, length, map, Option, Some, None, refl, sym, ap, ◌∙◌, subst, inl, inr, ⊎_elim}
+use Rattle.std.proofs.Common.{◌≡◌, ℕ, ◌+◌, ◌*◌, Bool, true, false, cond, nat_lt, List, [], ◌∷◌, ◌++◌, length, map, Option, Some, None, refl, sym, ap, ◌∙◌, subst, inl, inr, ⊎_elim}
 use Rattle.std.specs.Prelude.{⊤, IsSomeAnd, IfSome, MatchOption, ◌⊎◌, option_map}
 use Rattle.std.specs.List.{concat}
 use Rattle.std.proofs.lemmas.List.{map-append}
@@ -33,7 +33,7 @@ use Rattle.polygraph.specs.declared.solving.Answer as solved
 use Rattle.polygraph.specs.declared.solving.Answer.TheVariants as answers
 use Rattle.round_state.specs.EngineState.{EngineState, engine_over}
 use Rattle.round_state.specs.Legal.{State, IsTrueOf, whole_after, asked_after}
-use Rattle.round_state.specs.Opening.{fresh, no_history}
+use Rattle.round_state.specs.Opening.{fresh}
 use Rattle.round_state.specs.Runs.{Holds}
 use Rattle.round_state.specs.Solving.{IsRight, IsReportOn}
 use Rattle.round_state.specs.Steps.{Shows, IsRightReport, IsHeldAfter, StepsTo, answer_claimed, arrival_of}

@@ -1,12 +1,11 @@
 -- What right replies to a script that asks for snapshot isolation mean, told of the history as it was offered.
-use Rattle.std.proofs.Common.{◌≡◌, ℕ, ◌*◌, true, false, cond, nat_lt, List, [], ◌++◌, length, map, Option, Some, None, Bool, refl, sym, ap, ◌∙◌, subst, inl, inr, ⊎_elim, append-nil}
+use Rattle.std.proofs.Common.{◌≡◌, ◌⊎◌, ℕ, ◌+◌, ◌*◌, true, false, cond, nat_lt, List, [], ◌++◌, length, map, Option, Some, None, Bool, refl, sym, ap, ◌∙◌, subst, ⊎_elim, append-nil}
 use Rattle.std.specs.Prelude.{not}
 use Rattle.txn.specs.declared.refusals.Refusal.{Refusal}
 use Rattle.txn.specs.declared.refusals.Refusal.TheVariants.{BadSession, BadLine, NoRound, RoundOpen}
 use Rattle.txn.specs.declared.transactions.Fragment.{Fragment}
 use Rattle.txn.specs.declared.transactions.TxnId.{TxnId}
 use Rattle.txn.specs.History.{History}
-use Rattle.order_check.specs.declared.remainder.Kind.TheVariants as kinds
 use Rattle.order_check.specs.declared.remainder.Parts.{Parts}
 use Rattle.log_text.specs.declared.commands.Command.{Command}
 use Rattle.log_text.specs.declared.commands.Command.TheVariants.{Start, StartIsolated, Offer, Join, Close, Begin, Finish, Round, BeginSearch, Collect, Skip, Truncate, Rebuild, Show, Resume, Marks, MarksBegun, Last, Resumed, Save, Answer}
@@ -17,7 +16,7 @@ use Rattle.log_text.specs.declared.replies.Reply.TheVariants as told
 use Rattle.log_text.specs.declared.saved.Saved.TheVariants as saved
 use Rattle.log_text.specs.declared.versions.Version.{Version}
 use Rattle.log_text.specs.Versions.{most_sessions}
-use Rattle.round_state.specs.Legal.{State, asked_after, whole_after}
+use Rattle.round_state.specs.Legal.{State, whole_after}
 use Rattle.round_state.specs.Steps.{answer_claimed}
 use Rattle.round_state.specs.declared.reports.Certificate.{Certificate}
 use Rattle.round_state.specs.declared.reports.Certificate.TheVariants.{Order, Refuted, Nothing}
@@ -30,7 +29,7 @@ use Rattle.snapshot_histories.specs.Halves.{commit_half, event_at}
 use Rattle.snapshot_histories.specs.Split.{HistoryCanBeSplit, split_history}
 use Rattle.snapshot_scripts.specs.Isolated.{halved, isolated_of}
 use Rattle.snapshot_scripts.specs.Legal.{IsIsolationOf, LegalIsolation, SplitStepsFollow, split_state}
-use Rattle.snapshot_scripts.specs.Splitting.{CanBeAsked, IsAskedFault, split_wanted}
+use Rattle.snapshot_scripts.specs.Splitting.{CanBeAsked, split_wanted}
 use Rattle.snapshot_scripts.specs.Steps.{CanBeMade, split_step}
 use Rattle.snapshot_scripts.specs.Telling.{CommittedAreOfCommits, HalvedCountsAreWhole}
 use Rattle.engine_pasts.specs.Holding.{EventsStandBehind, HoldsBehind, MovesOn}

@@ -1,12 +1,11 @@
 -- What right replies to a script about orders mean.
-use Rattle.std.proofs.Common.{◌≡◌, ℕ, true, false, cond, nat_lt, List, [], ◌++◌, length, map, Option, Some, None, Bool, refl, sym, ap, ◌∙◌, subst, inl, inr, ⊎_elim, append-nil}
+use Rattle.std.proofs.Common.{◌≡◌, ◌⊎◌, ◌+◌, true, false, cond, nat_lt, List, [], ◌++◌, length, map, Option, Some, None, Bool, refl, sym, ap, ◌∙◌, subst, ⊎_elim, append-nil}
 use Rattle.std.specs.Prelude.{not}
 use Rattle.txn.specs.declared.refusals.Refusal.{Refusal}
 use Rattle.txn.specs.declared.refusals.Refusal.TheVariants.{BadSession, BadLine, NoRound, RoundOpen}
 use Rattle.txn.specs.declared.transactions.Fragment.{Fragment}
 use Rattle.txn.specs.declared.transactions.TxnId.{TxnId}
 use Rattle.txn.specs.History.{History}
-use Rattle.order_check.specs.declared.remainder.Kind.TheVariants as kinds
 use Rattle.order_check.specs.declared.remainder.Parts.{Parts}
 use Rattle.log_text.specs.declared.commands.Command.{Command}
 use Rattle.log_text.specs.declared.commands.Command.TheVariants.{Start, StartIsolated, Offer, Join, Close, Begin, Finish, Round, BeginSearch, Collect, Skip, Truncate, Rebuild, Show, Resume, Marks, MarksBegun, Last, Resumed, Save, Answer}
@@ -15,8 +14,6 @@ use Rattle.log_text.specs.declared.commands.Wanted.TheVariants as wanted
 use Rattle.log_text.specs.declared.replies.Reply.{Reply}
 use Rattle.log_text.specs.declared.replies.Reply.TheVariants as told
 use Rattle.log_text.specs.declared.saved.Saved.TheVariants as saved
-use Rattle.log_text.specs.declared.versions.Opening.{Opening}
-use Rattle.log_text.specs.declared.versions.Opening.TheVariants.{Ordered}
 use Rattle.log_text.specs.declared.versions.Version.{Version}
 use Rattle.round_state.specs.Legal.{State, Legal, IsTrueOf, whole_after}
 use Rattle.round_state.specs.Steps.{answer_claimed}
@@ -30,7 +27,7 @@ use Rattle.round_state.specs.declared.steps.StepReply.TheVariants as reply
 use Rattle.engine_pasts.specs.Holding.{HoldsBehind, MovesOn, StandsBehind}
 use Rattle.engine_pasts.specs.Laws.{ReportedOrdersStandBehind, StepsHoldBehind}
 use Rattle.cobra.specs.Saving.{fragment_told, saved_told}
-use Rattle.cobra.specs.Scripts.{IsBadLine, IsTakenIn, state_told}
+use Rattle.cobra.specs.Scripts.{IsBadLine, state_told}
 use Rattle.cobra.specs.StepReplies.{certified, claim_of, report_of, reply_of}
 use Rattle.cobra.specs.TrueReports.{MovesTxns, TellsTrueOf}
 use Rattle.report_checking.specs.Owing.{BeginsSearch, FinishesWhere, IsOwedReport, IsPlain, IsStep, OwesBeside, OwesFinish, OwesOpen, OwesRound}

@@ -1,5 +1,5 @@
 -- Right replies are true of what was offered, behind one order of what is gone.
-use Rattle.std.proofs.Common.{◌≡◌, ◌⊎◌, ℕ, ◌*◌, true, List, [], ◌∷◌, ◌++◌, Option, Some, None, Bool, refl, sym, ap, ◌∙◌, subst, inl, inr, append-nil}
+use Rattle.std.proofs.Common.{◌≡◌, ℕ, ◌*◌, true, List, [], ◌++◌, Option, Some, None, Bool, refl, sym, ◌∙◌, subst, inl, inr, append-nil}
 use Rattle.txn.specs.declared.transactions.TxnId.{TxnId}
 use Rattle.txn.specs.History.{History}
 use Rattle.log_text.specs.declared.commands.Command.{Command}
@@ -10,15 +10,12 @@ use Rattle.log_text.specs.declared.versions.Opening.{Opening}
 use Rattle.log_text.specs.declared.versions.Opening.TheVariants.{Ordered, Isolated}
 use Rattle.log_text.specs.Versions.{most_sessions}
 use Rattle.round_state.specs.Legal.{State}
-use Rattle.round_state.specs.Opening.{fresh, no_history}
-use Rattle.snapshot_histories.specs.Split.{split_history}
+use Rattle.round_state.specs.Opening.{fresh}
 use Rattle.snapshot_scripts.specs.Legal.{NothingIsSplit}
 use Rattle.engine_pasts.specs.Holding.{HoldsBehind}
 use Rattle.engine_pasts.specs.Laws.{FreshEnginesHoldBehind, HalvesAreToldBehind, ReportedOrdersStandBehind}
-use Rattle.cobra.specs.Outputs.{Asks}
-use Rattle.cobra.specs.Scripts.{IsBadLine}
 use Rattle.cobra.specs.TrueReports.{TellsTrueOf}
-use Rattle.report_checking.specs.Checking.{Checks, IsUnchecked, left_by, right, start, unchecked}
+use Rattle.report_checking.specs.Checking.{Checks, left_by, right, start, unchecked}
 use Rattle.report_checking.specs.OwedLines.{Owes, OwesFirst, OwesIn, OwesLine, ScriptState}
 use Rattle.report_checking.specs.TrueReplies.{ChecksTrue, IsKept, IsKeptIn, IsTrueTold, MovesIn, RightRepliesAreTrue, TellsTrue, beginning, left_out, reported_in, true_reply}
 use Rattle.report_checking.specs.declared.findings.Found.{Found}

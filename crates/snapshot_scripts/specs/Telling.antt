@@ -1,5 +1,5 @@
 -- Laws of what is told of halves.
-use Rattle.std.specs.Prelude.{◌≡◌, ◌↔◌, ℕ, ◌*◌, List, Contains, length, map}
+use Rattle.std.specs.Prelude.{◌≡◌, ◌↔◌, ◌*◌, List, Contains, length, map}
 use Rattle.txn.specs.declared.transactions.TxnId.{TxnId}
 use Rattle.txn.specs.History.{History}
 use Rattle.snapshot_histories.specs.Halves.{commit_half}
