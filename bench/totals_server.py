@@ -8,7 +8,7 @@ import os
 import re
 import time
 from collections.abc import Iterable, Iterator
-from dataclasses import dataclass, field
+from dataclasses import dataclass, field, replace
 from typing import Any
 
 import psycopg2
@@ -86,6 +86,7 @@ class Statement:
     kind: str
     on_table: bool = False
     plain: bool = False
+    cursor: str = ""  # that it declares, or fetches from
     ends: str = ""  # commit or rollback, of a transaction
     name: str = ""  # of a statement that controls a transaction
 
@@ -124,7 +125,7 @@ class Reader:
         if name == "CopyStmt":
             return Statement("copy" if not body.get("is_from") else "write", on_table)
         if name == "DeclareCursorStmt":
-            return self._one(body["query"])
+            return replace(self._one(body["query"]), cursor=body["portalname"])
         if name == "ExecuteStmt":
             return Statement("execute", True)
         if name == "ExplainStmt":
@@ -132,7 +133,8 @@ class Reader:
             ran = "analyze" in options
             return Statement("other", on_table and ran)
         if name == "FetchStmt":
-            return Statement("other") if body.get("ismove") else Statement("fetch", True)
+            its = Statement("fetch", True, cursor=body["portalname"])
+            return Statement("other") if body.get("ismove") else its
         if name in NO_TABLE:
             return Statement("other")
         if name in ("DoStmt", "CallStmt"):
@@ -292,6 +294,8 @@ class Oracle:
         said.rows_written = len(rows) + said.keyless
 
     def _statements(self, database: str, reader: Reader, said: Said) -> None:
+        fetched: collections.Counter[str] = collections.Counter()
+        declared: dict[str, list[int]] = {}  # how often each cursor was, and how often it was seen
         for text, calls, rows in self.run(
             "SELECT query, calls, rows FROM pg_stat_statements JOIN pg_database d ON d.oid = dbid "
             "WHERE datname = %s", "postgres", database,
@@ -302,6 +306,7 @@ class Oracle:
             one = its[0]
             if one.kind == "fetch":
                 said.rows_read += rows
+                fetched[one.cursor] += rows
             if one.kind not in ("select", "copy") or not one.on_table:
                 continue
             said.selects_told += calls
@@ -311,6 +316,13 @@ class Oracle:
                 said.seen += calls
                 said.seen_rows += rows
                 said.seen_plain += calls * one.plain
+            if one.cursor:
+                counts = declared.setdefault(one.cursor, [0, 0])
+                counts[0] += calls
+                counts[1] += calls * (HIDDEN in text)
+        for cursor, rows in fetched.items():
+            calls, seen = declared.get(cursor, [1, 0])
+            said.seen_rows += round(rows * seen / calls)
 
     def _logged(self, database: str, reader: Reader, said: Said) -> None:
         lives: dict[tuple[int, str], Life] = {}

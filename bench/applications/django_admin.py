@@ -46,7 +46,7 @@ from django.test import Client
 from django.urls import path
 
 urlpatterns = [path("admin/", admin.site.urls)]
-THREADS, ROUNDS = 4, 8
+THREADS, ROUNDS = 4, 40
 PASSWORD = {"password1": "Zanteyard99", "password2": "Zanteyard99"}
 DATES = {"date_joined_0": "2024-01-01", "date_joined_1": "00:00:00"}
 DATES.update(last_login_0="", last_login_1="")

@@ -14,7 +14,7 @@ var worlds = flag.Int("worlds", 60, "random lives of a proxy over a store that i
 // Sessions are handed from connection to connection, and fences are written that nobody ran, at moments that are met
 // badly: what the application did has an order, and so has what was offered of it, with the sessions and the fences.
 func TestHandingOnMakesUpNothing(t *testing.T) {
-	var offered, handed, fences, cuts, commits uint64
+	var offered, handed, fences, cuts, commits, held uint64
 	for seed := int64(0); seed < int64(*worlds); seed++ {
 		w := newWorld(t, seed, "")
 		w.live1(12)
@@ -23,18 +23,18 @@ func TestHandingOnMakesUpNothing(t *testing.T) {
 		}
 		n := w.core.counts
 		offered, fences, handed = offered+n.offered, fences+n.fences, handed+n.handed
-		commits, cuts = commits+uint64(w.ids), cuts+uint64(w.cuts)
+		commits, cuts, held = commits+uint64(w.ids), cuts+uint64(w.cuts), held+w.held
 	}
-	t.Logf("of %d transactions %d were offered; %d fences, %d cuts; handed on %d times", commits, offered-fences, fences, cuts,
-		handed)
-	if handed < uint64(*worlds) || cuts < uint64(*worlds) || offered-fences < commits/4 {
+	t.Logf("of %d transactions %d were offered; %d fences, %d cuts; handed on %d times; %d of cursors WITH HOLD", commits, offered-fences,
+		fences, cuts, handed, held)
+	if held < uint64(*worlds) || handed < uint64(*worlds) || cuts < uint64(*worlds) || offered-fences < commits/4 {
 		t.Error("that is too little to find anything")
 	}
 }
 
 // Each joiner that is made wrong on purpose is found to be wrong.
 func TestWrongJoiners(t *testing.T) {
-	for _, one := range []fault{byTheClock, spanning, late, early, wrongOrder, hasty} {
+	for _, one := range []fault{byTheClock, spanning, late, early, wrongOrder, hasty, fetched, disordered} {
 		findWrong(t, one, false)
 	}
 }

@@ -37,6 +37,10 @@ type connection struct {
 	ended   bool
 	active  time.Time
 	held    *entry // its outcome isn't known yet
+	// aside stands for it where what its cursors WITH HOLD return is offered: in a session of its own, which no other
+	// transaction of the connection is in. isAside: it stands for another one.
+	aside   *connection
+	isAside bool
 }
 
 // told is what is kept about an offered transaction until it is gone.
@@ -76,8 +80,12 @@ func (c *core) enter(it record.Connection) {
 		if conn := c.connections[it.Number]; conn != nil {
 			conn.ended = true
 			delete(c.connections, it.Number)
-			c.unqueue(conn)
-			c.release(conn)
+			for _, one := range []*connection{conn, conn.aside} {
+				if one != nil {
+					c.unqueue(one)
+					c.release(one)
+				}
+			}
 		}
 		return
 	}
@@ -93,6 +101,18 @@ func (c *core) enter(it record.Connection) {
 	}
 	c.queue = append(c.queue, conn)
 	c.place()
+}
+
+// asideOf returns what stands for a connection where what its cursors WITH HOLD return is offered.
+func (c *core) asideOf(conn *connection) *connection {
+	if conn.aside == nil {
+		conn.aside = &connection{its: conn.its, isAside: true, active: c.now}
+		if c.sampled(conn.its.Number) && !c.isElsewhere(conn.its) {
+			c.queue = append(c.queue, conn.aside)
+			c.place()
+		}
+	}
+	return conn.aside
 }
 
 // isElsewhere reports whether a connection is of another database than the slot: there the same identifiers belong to
@@ -115,7 +135,7 @@ func (c *core) unqueue(conn *connection) {
 func (c *core) audited() []uint64 {
 	its := make([]uint64, 0, len(c.sessions))
 	for _, s := range c.sessions {
-		if s.tenant != nil {
+		if s.tenant != nil && !s.tenant.isAside {
 			its = append(its, s.tenant.its.Number)
 		}
 	}

@@ -392,7 +392,7 @@ func TestHandingOnMakesUpNoBrokenSnapshot(t *testing.T) {
 
 // Each joiner that is made wrong on purpose breaks what the store keeps.
 func TestWrongJoinersOfSnapshots(t *testing.T) {
-	for _, one := range []fault{byTheClock, spanning, late, early, wrongOrder, hasty} {
+	for _, one := range []fault{byTheClock, spanning, late, early, wrongOrder, hasty, fetched} {
 		findWrong(t, one, true)
 	}
 }

@@ -25,7 +25,10 @@ func (c *core) tell(it record.Transaction) {
 	c.countAsks(&it)
 	conn := c.connections[it.Connection]
 	if conn != nil {
-		conn.active = c.now
+		if conn.active = c.now; it.Held {
+			conn = c.asideOf(conn)
+			conn.active = c.now
+		}
 	}
 	if it.Outcome != record.Aborted && (conn == nil || !c.isElsewhere(conn.its)) && !c.isOutside(&it) {
 		c.await(&it)

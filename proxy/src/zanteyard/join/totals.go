@@ -113,8 +113,10 @@ func (t *Totals) told(it *record.Transaction) {
 		t.RowsWritten.RolledBack += it.Did.Written
 		return
 	}
-	t.Transactions.All++
-	t.Levels[it.Level]++
+	if !it.Uncounted {
+		t.Transactions.All++
+		t.Levels[it.Level]++
+	}
 	t.Selects.All += selects
 	t.Writes.All += writes
 	t.RowsRead.All += rows
@@ -147,7 +149,9 @@ func (t *Totals) wrote(it *record.Transaction, rows uint64, reason string) {
 // its own reason.
 func (t *Totals) leave(it *record.Transaction, reason string) {
 	d := it.Did.Alone(len(it.Reads))
-	t.Transactions.leave(reason, 1)
+	if !it.Uncounted {
+		t.Transactions.leave(reason, 1)
+	}
 	t.Selects.leave(reason, d.Again)
 	t.Writes.leave(reason, d.Writes)
 	t.RowsRead.leave(reason, d.Beyond)
@@ -166,6 +170,7 @@ func (t *Totals) leave(it *record.Transaction, reason string) {
 func (t *Totals) take(e *entry, to *resolution, why string) {
 	d := &e.its.Did
 	switch {
+	case e.its.Uncounted:
 	case why == "":
 		t.Transactions.Checked++
 	case to.offersNothing():

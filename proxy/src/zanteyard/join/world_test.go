@@ -35,6 +35,7 @@ type world struct {
 	loose    bool                  // it keeps nothing: it commits everything, and returns older versions at times
 	slot     []func()              // then: commits that the slot has yet to report
 	aborted  int
+	held     uint64 // times that what a cursor WITH HOLD had returned after its transaction was offered
 	// elsewhere: connections with an even number are those of another machine's proxy (elsewhere_test.go).
 	elsewhere bool
 	far       uint64 // transactions from there that were offered
@@ -51,6 +52,8 @@ const (
 	wrongOrder = "a fence of a moment is written after the fences of the next one"
 	trusting   = "another machine's clock is trusted"
 	hasty      = "a transaction has ended when its commit is in the log"
+	fetched    = "what a cursor WITH HOLD returns is offered where it is fetched"
+	disordered = "what cursors WITH HOLD return is offered in another order than that of their transactions"
 )
 
 type worldVersion struct{ by, at int } // the writer, and its place in the order in which others see commits
@@ -66,6 +69,7 @@ type worldConn struct {
 	last          int // its last committed transaction, 0 for none
 	open          *worldTxn
 	held          bool
+	holding       []record.Transaction // what its cursors WITH HOLD have yet to return, in the order of their transactions
 }
 
 type worldTxn struct {
@@ -109,6 +113,8 @@ func (w *world) step() {
 	}
 	c := w.live[w.r.Intn(len(w.live))]
 	switch {
+	case len(c.holding) > 0 && w.r.Intn(3) == 0:
+		w.fetch(c)
 	case c.held && c.open == nil:
 	case c.open == nil && (w.r.Intn(8) == 0 || len(w.live) > w.most):
 		w.leave(c)
@@ -280,7 +286,15 @@ func (w *world) end(c *worldConn) {
 	its := unseenCommit{t, w.ids}
 	if w.r.Intn(30) > 0 {
 		w.see(its)
+		holds := record.Transaction{Held: true, Uncounted: true, Began: it.Began, Level: it.Level}
+		if n := len(it.Reads); n > 0 && len(t.writes) == 0 && w.r.Intn(2) == 0 {
+			n = w.r.Intn(n)
+			it.Reads, holds.Reads = it.Reads[:n:n], it.Reads[n:]
+		}
 		w.told(c, it)
+		if holds.Ended = w.now; len(holds.Reads) > 0 {
+			c.holding = append(c.holding, holds)
+		}
 		return
 	}
 	it.Outcome = record.Unclear
@@ -288,6 +302,27 @@ func (w *world) end(c *worldConn) {
 	w.leave(c)
 	w.unseen = append(w.unseen, its)
 	w.shown()
+}
+
+// fetch returns some of what a cursor WITH HOLD has read, whose transaction has ended.
+func (w *world) fetch(c *worldConn) {
+	at := 0
+	if w.fault == disordered {
+		at = w.r.Intn(len(c.holding))
+	}
+	it := &c.holding[at]
+	some := *it
+	n := 1 + w.r.Intn(len(it.Reads))
+	some.Reads, it.Reads = it.Reads[:n:n], it.Reads[n:]
+	if len(it.Reads) == 0 {
+		c.holding = append(c.holding[:at], c.holding[at+1:]...)
+	}
+	if w.fault == fetched {
+		some.Held, some.Began = false, w.now
+		w.tick()
+		some.Ended = w.now
+	}
+	w.report(c, some)
 }
 
 func (w *world) unlock(t *worldTxn) {
@@ -390,6 +425,11 @@ func (w *world) deliver() {
 func (w *world) told(c *worldConn, it record.Transaction) {
 	w.tick()
 	it.Ended = w.now
+	w.report(c, it)
+}
+
+// report has a connection's session report a transaction.
+func (w *world) report(c *worldConn, it record.Transaction) {
 	it.Connection, it.Place = c.number, c.place
 	c.place++
 	if w.elsewhere && c.number%2 == 0 {
@@ -407,6 +447,10 @@ func (w *world) told(c *worldConn, it record.Transaction) {
 // tell reports a transaction to the joiner, which may be made wrong on purpose.
 func (w *world) tell(it record.Transaction) {
 	conn := w.core.connections[it.Connection]
+	if it.Held {
+		before := w.named()
+		defer func() { w.held += w.named() - before }()
+	}
 	switch {
 	case w.fault == byTheClock, w.fault == spanning:
 		it.Began = it.Ended

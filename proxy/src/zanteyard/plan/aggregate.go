@@ -57,7 +57,11 @@ func (p *Plan) Lists() bool { return p.Counts || p.Copied }
 // Aggregated returns how many rows a row of the result was made of, if the plan counts them.
 func (p *Plan) Aggregated(values [][]byte, isBinary bool) (uint64, bool) {
 	if p.Copied && len(values) == 1 {
-		rows, _, ok := p.copiedIn(values[0], isBinary)
+		all, ok := p.copiedIn(values[0], isBinary)
+		rows := uint64(0)
+		for _, one := range all {
+			rows += one.rows
+		}
 		return rows, ok
 	}
 	if !p.Counts || len(values) != p.Hidden() || values[0] == nil {
@@ -76,9 +80,11 @@ func (p *Plan) Aggregated(values [][]byte, isBinary bool) (uint64, bool) {
 // Complete reports whether the lists of a row have all rows that it was made of.
 func (p *Plan) Complete(values [][]byte, isBinary bool) bool {
 	if p.Copied {
-		rows, lists, ok := p.copiedIn(values[0], isBinary)
-		for _, list := range lists {
-			ok = ok && records(list) == rows
+		all, ok := p.copiedIn(values[0], isBinary)
+		for _, one := range all {
+			for _, list := range one.lists {
+				ok = ok && records(list) == one.rows
+			}
 		}
 		return ok
 	}

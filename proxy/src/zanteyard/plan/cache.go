@@ -148,7 +148,7 @@ func (c *Cache) lookUp(state *cached, text string) (*Plan, Tokens) {
 	}
 	p, tokens := c.locate(state, p, text, s.tokens)
 	tokens.left = s.left
-	return p, tokens
+	return p.named(s), tokens
 }
 
 // find returns a text's plan, and its tokens in the scanner.
@@ -156,6 +156,7 @@ func (c *Cache) find(state *cached, s *scanner, text string, apart bool) *Plan {
 	if s.apart = apart; !s.scan(text) {
 		return state.unknown
 	}
+	s.nameless()
 	home := &state.shards[maphash.Bytes(c.seed, s.key)%shards]
 	p := home.find(state, s.key)
 	if p == nil {
@@ -216,7 +217,7 @@ func (c *Cache) locate(state *cached, p *Plan, text string, list []token) (*Plan
 			break
 		}
 	}
-	if p.Copied && p.insertions[0].in(list, 0).copied.long() {
+	if p.Copied && areLong(p.insertions[0].in(list, 0).copied) {
 		p = p.misplaced
 	}
 	tokens := Tokens{at: nowhere}

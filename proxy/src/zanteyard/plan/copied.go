@@ -13,7 +13,8 @@ import (
 
 // What a query made one row of, or left out as equal, is in none of its rows. So it is asked once more: the whole statement
 // becomes a subquery of one that has a hidden column besides, with a query of its own that has the statement's FROM and WHERE,
-// copied with their constants, and lists the rows that it finds. Both are parts of one statement, so of one snapshot.
+// copied with their constants, and lists the rows that it finds. Both are parts of one statement, so of one snapshot. Of a
+// UNION, INTERSECT or EXCEPT there is such a query for each part.
 //
 //	SELECT its columns, CASE WHEN it is the first row THEN (SELECT lists FROM (SELECT versions and keys, row_number()
 //	FROM its FROM WHERE its WHERE) WHERE row_number <= 257) END FROM (the statement) AS zanteyard
@@ -33,8 +34,14 @@ const (
 	mostCopiedTokens = 1500
 )
 
-// long reports whether so much is copied that the statement is left as it is.
-func (s span) long() bool { return s.to-s.from > mostCopied }
+// areLong reports whether so much is copied that the statement is left as it is.
+func areLong(all []span) bool {
+	size := int32(0)
+	for _, one := range all {
+		size += one.to - one.from
+	}
+	return size > mostCopied
+}
 
 // tooLongToCopy is why a statement is left as it is whose conditions are too long to be planned twice.
 const tooLongToCopy = "conditions of more than 16 kB"
@@ -42,58 +49,122 @@ const tooLongToCopy = "conditions of more than 16 kB"
 // repeats makes the plan of a query that merges rows by asking for them once more, or returns false if what it reads, or an
 // error, may depend on that.
 func (m *maker) repeats(p *Plan, body node, start, end int) bool {
-	if !m.mayCopy(p, body) {
+	if p.Kind != Select || p.Calls || p.MayWriteUnseen || p.ChangesNames || m.cursor || m.prepared || m.catalog.CastsElsewhere() ||
+		m.runsForeign(node{"SelectStmt": map[string]any(body)}) {
 		return false
+	}
+	parts, ok := m.mergedParts(body, start, end, nil)
+	if !ok {
+		return false
+	}
+	size, tokens := 0, 0
+	var lists []string
+	var copies []copied
+	for _, part := range parts {
+		f := &fromClause{maker: m, plan: p, lists: true}
+		f.read(part.body, "fromClause")
+		found := f.copied()
+		tokens += part.to - part.from
+		if size += f.items; size > mostJoined || tokens > mostCopiedTokens {
+			return false
+		}
+		if len(found) == 0 {
+			return false
+		}
+		h := &hiding{}
+		for _, it := range found {
+			it.listed = true
+			h.copies(it)
+			p.Sources = append(p.Sources, it.source())
+			p.relations = append(p.relations, it.relation())
+		}
+		p.merged = append(p.merged, len(found))
+		m.merged = append(m.merged, part.body)
+		begin, tail := h.copy()
+		lists, copies = append(lists, begin), append(copies, copied{part.tokenRange, tail})
+	}
+	if len(copies) == 0 {
+		return false
+	}
+	p.Copied, p.Ordered = true, true
+	p.insertions = append(p.insertions, asksAgain(start, lists, copies),
+		insertion{text: ") AS " + alias + " ", token: end - 1, behind: true})
+	return true
+}
+
+// asksAgain is what is written before a statement that is asked once more.
+func asksAgain(start int, lists []string, copies []copied) insertion {
+	open, shut := "", ""
+	if len(copies) > 1 {
+		open, shut = "pg_catalog.record_send(ROW(", "))"
+	}
+	for i := range copies[:len(copies)-1] {
+		copies[i].tail += ", " + lists[i+1]
+	}
+	copies[len(copies)-1].tail += shut + " ELSE ''::pg_catalog.bytea END END AS " + alias + " FROM ("
+	return insertion{text: "SELECT " + alias + ".*, CASE WHEN pg_catalog.row_number() OVER () OPERATOR(pg_catalog.=) 1 THEN " +
+		"CASE WHEN " + belowSerializable +
+		" AND pg_catalog.clock_timestamp() OPERATOR(pg_catalog.<) (pg_catalog.statement_timestamp() " +
+		"OPERATOR(pg_catalog.+) '" + strconv.Itoa(int(copiedFor.Milliseconds())) + "ms'::pg_catalog.interval) THEN " +
+		open + lists[0], token: start, copies: copies}
+}
+
+// mergedPart is a query of a UNION, INTERSECT or EXCEPT, or the only one of a statement, with the tokens of its FROM and WHERE.
+type mergedPart struct {
+	body node
+	tokenRange
+}
+
+// mergedParts adds the parts of a statement that read tables. It returns false if one of them can't be copied.
+func (m *maker) mergedParts(body node, start, end int, to []mergedPart) ([]mergedPart, bool) {
+	if body.has("larg") {
+		for name := range body {
+			switch name {
+			case "op", "all", "larg", "rarg", "sortClause", "limitOption":
+			default:
+				return nil, false
+			}
+		}
+		to, ok := m.mergedParts(body.node("larg"), nowhere, end, to)
+		if !ok {
+			return nil, false
+		}
+		return m.mergedParts(body.node("rarg"), nowhere, end, to)
 	}
 	for name := range body {
 		switch name {
 		case "targetList", "fromClause", "whereClause", "groupClause", "groupDistinct", "havingClause", "sortClause",
 			"distinctClause", "windowClause", "op", "limitOption":
 		default:
-			return false
+			return nil, false
 		}
 	}
+	if !body.has("fromClause") {
+		return to, start == nowhere && !body.has("whereClause") && !body.has("havingClause")
+	}
 	parts := []any{body["targetList"], body["sortClause"], body["windowClause"]}
-	word := m.fromWord(start, end)
-	if word < start || end-word > mostCopiedTokens || !body.has("groupClause") && m.onlyEnds(body, parts) {
-		return false
+	if !m.mayCopy(body) || !body.has("groupClause") && m.onlyEnds(body, parts) {
+		return nil, false
 	}
-	f := &fromClause{maker: m, plan: p, lists: true}
-	f.read(body, "fromClause")
-	if f.items > mostJoined {
-		return false
+	word := nowhere
+	if start != nowhere {
+		word = m.fromWord(start, end)
+	} else if targets := body.list("targetList"); len(targets) > 0 {
+		_, first := only(targets[0])
+		if at := m.tokenAt(first.number("location")); at >= 0 {
+			word = m.fromAfter(at, end, m.depths[at])
+		}
 	}
-	found := f.copied()
-	if len(found) == 0 {
-		return false
+	if word < 0 {
+		return nil, false
 	}
-	h := &hiding{}
-	for _, it := range found {
-		it.listed = true
-		h.copies(it)
-		p.Sources = append(p.Sources, it.source())
-		p.relations = append(p.relations, it.relation())
-	}
-	begin, tail := h.copy()
-	p.Copied, p.Ordered = true, true
-	p.insertions = append(p.insertions,
-		insertion{text: begin, token: start, copied: tokenRange{word, m.conditionsEnd(word, end)}, tail: tail},
-		insertion{text: ") AS " + alias + " ", token: end - 1, behind: true})
-	return true
+	return append(to, mergedPart{body, tokenRange{word, m.conditionsEnd(word, end)}}), true
 }
 
-// mayCopy reports whether a query reads only tables, runs nothing that others have made, and has only conditions that are an
-// error for all rows or for none.
-func (m *maker) mayCopy(p *Plan, body node) bool {
-	if !m.havingAlone(body["havingClause"]) {
-		return false
-	}
-	if p.Kind != Select || p.Calls || p.MayWriteUnseen || p.ChangesNames || m.cursor || m.prepared || m.catalog.CastsElsewhere() ||
-		m.runsForeign(node{"SelectStmt": map[string]any(body)}) || !body.has("fromClause") {
-		return false
-	}
+// mayCopy reports whether a query reads only tables, and has only conditions that are an error for all rows or for none.
+func (m *maker) mayCopy(body node) bool {
 	c := copyable{m: m}
-	return c.from(body["fromClause"], nil) && c.is(body["whereClause"])
+	return m.havingAlone(body["havingClause"]) && c.from(body["fromClause"], nil) && c.is(body["whereClause"])
 }
 
 // havingAlone reports whether HAVING leaves out groups alone. The server tries a condition without an aggregate on each row
@@ -147,7 +218,7 @@ func (m *maker) conditionsEnd(from, end int) int {
 			continue
 		}
 		switch strings.ToLower(m.word(i)) {
-		case "group", "having", "window", "order":
+		case "group", "having", "window", "order", "union", "intersect", "except":
 			return i
 		}
 	}
@@ -294,7 +365,7 @@ func (h *hiding) copies(it *item) {
 	h.value(row)
 }
 
-// copy returns what is written before and after the copied FROM and WHERE.
+// copy returns what is written before and after a copied FROM and WHERE.
 func (h *hiding) copy() (begin, tail string) {
 	lists, rows, number := "", h.texts(), quote(alias+" 0")
 	for i := range rows {
@@ -303,30 +374,47 @@ func (h *hiding) copy() (begin, tail string) {
 		lists += ", CASE WHEN " + countOfRows + " OPERATOR(pg_catalog.<=) " + strconv.Itoa(MostListed) +
 			" THEN pg_catalog.string_agg(" + alias + "." + name + ", '') END"
 	}
-	begin = "SELECT " + alias + ".*, CASE WHEN pg_catalog.row_number() OVER () OPERATOR(pg_catalog.=) 1 THEN " +
-		"CASE WHEN " + belowSerializable +
-		" AND pg_catalog.clock_timestamp() OPERATOR(pg_catalog.<) (pg_catalog.statement_timestamp() " +
-		"OPERATOR(pg_catalog.+) '" + strconv.Itoa(int(copiedFor.Milliseconds())) + "ms'::pg_catalog.interval) THEN " +
-		"(SELECT pg_catalog.record_send(ROW(" + countOfRows + lists + ")) FROM (SELECT " + strings.Join(rows, ", ") +
+	begin = "(SELECT pg_catalog.record_send(ROW(" + countOfRows + lists + ")) FROM (SELECT " + strings.Join(rows, ", ") +
 		", pg_catalog.row_number() OVER () AS " + number + " "
-	tail = ") AS " + alias + " WHERE " + alias + "." + number + " OPERATOR(pg_catalog.<=) " + strconv.Itoa(MostListed+1) +
-		") ELSE ''::pg_catalog.bytea END END AS " + alias + " FROM ("
+	tail = ") AS " + alias + " WHERE " + alias + "." + number + " OPERATOR(pg_catalog.<=) " + strconv.Itoa(MostListed+1) + ")"
 	return begin, tail
 }
 
-// copiedIn returns the parts of a copy: how many rows there were, and a list for each of the plan's tables. ok is false if
-// it has none.
-func (p *Plan) copiedIn(value []byte, isBinary bool) (rows uint64, lists [][]byte, ok bool) {
-	const bytea = 17
+// copiedPart is what a copy of one part has returned: how many rows there were, and a list for each of its tables.
+type copiedPart struct {
+	rows  uint64
+	lists [][]byte
+}
+
+// copiedIn returns what copies have returned. ok is false if they have returned nothing.
+func (p *Plan) copiedIn(value []byte, isBinary bool) (all []copiedPart, ok bool) {
 	its, ok := raw(value, isBinary)
 	if !ok || len(its) == 0 {
-		return 0, nil, false
+		return nil, false
 	}
-	fields, last, rest, ok := cutRecord(its, make([][]byte, 0, 1+len(p.Sources)))
-	if !ok || len(rest) > 0 || len(fields) != 1+len(p.Sources) || len(fields[0]) != 8 || last != bytea {
-		return 0, nil, false
+	parts := [][]byte{its}
+	if len(p.merged) > 1 {
+		if parts, _, its, ok = cutRecord(its, nil); !ok || len(its) > 0 || len(parts) != len(p.merged) {
+			return nil, false
+		}
 	}
-	return binary.BigEndian.Uint64(fields[0]), fields[1:], true
+	for i, part := range parts {
+		const bytea = 17
+		fields, last, rest, ok := cutRecord(part, make([][]byte, 0, 1+p.merged[i]))
+		if !ok || len(rest) > 0 || len(fields) != 1+p.merged[i] || len(fields[0]) != 8 || last != bytea {
+			return nil, false
+		}
+		all = append(all, copiedPart{binary.BigEndian.Uint64(fields[0]), fields[1:]})
+	}
+	return all, true
+}
+
+// lists returns all lists of copies, in the order of the plan's tables.
+func listsOf(all []copiedPart) (lists [][]byte) {
+	for _, one := range all {
+		lists = append(lists, one.lists...)
+	}
+	return lists
 }
 
 // appendCopied returns the rows that a copy lists.
@@ -334,7 +422,8 @@ func (p *Plan) appendCopied(to []record.Read, value []byte, isBinary bool) ([]re
 	if value == nil {
 		return to, nil
 	}
-	_, lists, ok := p.copiedIn(value, isBinary)
+	all, ok := p.copiedIn(value, isBinary)
+	lists := listsOf(all)
 	var failed error
 	if its, readable := raw(value, isBinary); !ok && (!readable || len(its) > 0) {
 		return to, fmt.Errorf("a list of what a statement read can't be read")
@@ -350,8 +439,9 @@ func (p *Plan) appendCopied(to []record.Read, value []byte, isBinary bool) ([]re
 	return to, failed
 }
 
-// copyOf checks that a rewritten statement has the whole statement within, and a copy of its FROM and WHERE, and nothing else.
-func copyOf(statement, rewritten node) bool {
+// copyOf checks that a rewritten statement has the whole statement within, and a copy of each FROM and WHERE that is copied,
+// and nothing else.
+func (m *maker) copyOf(statement, rewritten node) bool {
 	_, body := only(rewritten)
 	for name := range body {
 		switch name {
@@ -372,19 +462,20 @@ func copyOf(statement, rewritten node) bool {
 	if fields := names(star.as("val", "ColumnRef").list("fields")); len(fields) != 2 || fields[0] != alias || fields[1] != "*" {
 		return false
 	}
-	_, query := only(statement)
-	copies := 0
+	copies, same := 0, true
 	visit(list[1], func(kind string, its node) bool {
 		if kind != "RangeSubselect" {
 			return true
 		}
-		copied := its.node("subquery").node("SelectStmt")
-		if alike(query["fromClause"], copied["fromClause"]) && alike(query["whereClause"], copied["whereClause"]) {
-			copies++
+		found := its.node("subquery").node("SelectStmt")
+		if same = same && copies < len(m.merged); same {
+			query := m.merged[copies]
+			same = alike(query["fromClause"], found["fromClause"]) && alike(query["whereClause"], found["whereClause"])
 		}
+		copies++
 		return false
 	})
-	return copies == 1
+	return same && copies == len(m.merged)
 }
 
 // isLong writes that the texts of a key are short enough to be listed, "" if they always are.

@@ -22,7 +22,8 @@ func (p *Plan) Each(values [][]byte, isBinary bool, take func(source int, its []
 		return false
 	}
 	if p.Copied {
-		_, lists, ok := p.copiedIn(values[0], isBinary)
+		all, ok := p.copiedIn(values[0], isBinary)
+		lists := listsOf(all)
 		for i := range lists {
 			ok = ok && p.Sources[i].eachListed(i, lists[i], take)
 		}

@@ -35,16 +35,16 @@ type planned struct {
 	OneTime   string `json:"One-Time Filter"`
 }
 
-// around returns the plan of the statement that a copy is made of, and that of the copy, from the plan of the statement
+// around returns the plan of the statement that copies are made of, and those of the copies, from the plan of the statement
 // around it.
-func (n *planned) around() (statement, copied *planned) {
+func (n *planned) around() (statement *planned, copies []*planned) {
 	if n.Type != "WindowAgg" {
 		return nil, nil
 	}
 	for i := range n.Plans {
 		switch its := &n.Plans[i]; {
-		case its.Place == "InitPlan" && copied == nil:
-			copied = its
+		case its.Place == "InitPlan":
+			copies = append(copies, its)
 		case its.Place == "Outer" && statement == nil:
 			statement = its
 		default:
@@ -54,7 +54,7 @@ func (n *planned) around() (statement, copied *planned) {
 	if statement != nil && statement.Type == "Subquery Scan" && statement.Alias == alias && len(statement.Plans) == 1 {
 		statement = &statement.Plans[0]
 	}
-	return statement, copied
+	return statement, copies
 }
 
 // What is hashed or sorted is split into batches if it takes more memory than the server allows, by default 4 MiB. Wider rows
@@ -93,7 +93,7 @@ func (p *Plan) Form(answer []byte, hidden bool) string {
 	}
 	if p.Copied {
 		all[0].Plan.rename()
-		return all[0].Plan.copiedForm(hidden)
+		return all[0].Plan.copiedForm(hidden, len(p.merged))
 	}
 	if p.looksUp && all[0].Plan.withoutLookups() {
 		return ""
@@ -112,10 +112,10 @@ func (p *Plan) Form(answer []byte, hidden bool) string {
 }
 
 // copiedForm is the form of a statement that is asked once more, or of itself: no row of it is wider.
-func (n *planned) copiedForm(hidden bool) string {
+func (n *planned) copiedForm(hidden bool, parts int) string {
 	if hidden {
-		statement, copied := n.around()
-		if statement == nil || copied == nil || !statement.readsAll() || !sameScans(statement, copied) {
+		statement, copies := n.around()
+		if statement == nil || len(copies) != parts || !statement.readsAll() || !sameScans(statement, copies) {
 			return ""
 		}
 		n = statement
@@ -126,11 +126,14 @@ func (n *planned) copiedForm(hidden bool) string {
 	return out.String()
 }
 
-// sameScans reports whether a copy finds rows as the statement does: in the same tables, by the same indexes and conditions.
+// sameScans reports whether copies find rows as the statement does: in the same tables, by the same indexes and conditions.
 // Otherwise it might meet rows that the statement doesn't, since the server may move a condition of the statement's to where
 // the copy has none. At serializable it would lock what the statement doesn't.
-func sameScans(statement, copied *planned) bool {
-	its, others := statement.scans(nil), copied.scans(nil)
+func sameScans(statement *planned, copies []*planned) bool {
+	its, others := statement.scans(nil), []string(nil)
+	for _, one := range copies {
+		others = one.scans(others)
+	}
 	sort.Strings(its)
 	sort.Strings(others)
 	return strings.Join(its, "\n") == strings.Join(others, "\n")
@@ -156,7 +159,7 @@ var unnumbered = regexp.MustCompile(`_[0-9]+("?\.)|\b(SubPlan |InitPlan )[0-9]+|
 // some rows would have others locked by the copy, at serializable.
 func (n *planned) readsAll() bool {
 	switch {
-	case n.Type == "Sort", n.Type == "Aggregate" && n.Strategy != "Sorted", n.OneTime != "":
+	case n.Type == "Sort", n.Type == "Aggregate" && n.Strategy != "Sorted", n.Type == "SetOp" && n.Strategy == "Hashed", n.OneTime != "":
 		return true
 	case n.Relation != "" || n.Index != "":
 		return false

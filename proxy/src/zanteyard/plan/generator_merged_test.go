@@ -21,6 +21,54 @@ func (w *writer) merged() string {
 		w.say("DISTINCT", "count(*)", ",", one)
 	}
 	w.say(from...)
+	w.conditions(column)
+	if group == 1 || group == 3 {
+		w.say("GROUP", "BY", one)
+		w.say(w.pick("", "HAVING count(*) > 1", "HAVING max("+other+") > 2"))
+	}
+	w.say(w.pick("", "ORDER BY 1", "ORDER BY 2 DESC", "ORDER BY count(*)"))
+	return w.text()
+}
+
+// setOperation writes a UNION, INTERSECT or EXCEPT of such parts.
+func (w *writer) setOperation() string {
+	for i := w.Intn(3); i >= -1; i-- {
+		open := w.once(3)
+		if open {
+			w.say("(")
+		}
+		head := append(w.words, "SELECT")
+		w.words, w.names = nil, nil
+		w.from()
+		from := w.words
+		w.words = head
+		column := func() string { return w.pick(w.names...) + "." + w.pick("id", "n") }
+		one, other := column(), column()
+		group := w.once(4)
+		if group {
+			other = w.pick("count(*)::int", "max("+other+")")
+		}
+		w.say(w.pick("", "", "DISTINCT"), one, w.pick("", "AS x", "AS union"), ",", w.pick(other, other, "1"))
+		w.say(from...)
+		if w.conditions(column); group {
+			w.say("GROUP", "BY", one)
+		}
+		if open {
+			w.say(w.pick("", "ORDER BY 1"), ")")
+		}
+		if i >= 0 {
+			w.say(w.pick("UNION", "UNION", "UNION ALL", "INTERSECT", "INTERSECT ALL", "EXCEPT", "EXCEPT ALL"))
+		}
+		if i == 1 && w.once(4) {
+			w.say("SELECT", "1", ",", "2", "UNION")
+		}
+	}
+	w.say(w.pick("", "ORDER BY 1", "ORDER BY 2 DESC, 1", "ORDER BY 1, 2"))
+	return w.text()
+}
+
+// conditions writes a WHERE, or none, that is no error for any row.
+func (w *writer) conditions(column func() string) {
 	if w.once(2) {
 		w.say("WHERE")
 		for i := w.Intn(3); i >= 0; i-- {
@@ -43,10 +91,4 @@ func (w *writer) merged() string {
 			}
 		}
 	}
-	if group == 1 || group == 3 {
-		w.say("GROUP", "BY", one)
-		w.say(w.pick("", "HAVING count(*) > 1", "HAVING max("+other+") > 2"))
-	}
-	w.say(w.pick("", "ORDER BY 1", "ORDER BY 2 DESC", "ORDER BY count(*)"))
-	return w.text()
 }

@@ -24,6 +24,8 @@ func (m *maker) planned(stmt statement) *Plan {
 	case "SelectStmt", "InsertStmt", "UpdateStmt", "DeleteStmt", "MergeStmt":
 		return m.query(stmt, name, body, stmt.from)
 	case "DeclareCursorStmt":
+		const hold = 0x20 // CURSOR_OPT_HOLD
+		p.Holds = body.number("options")&hold != 0
 		return m.wrapped(p, stmt, Declare, body.text("portalname"), body, "FOR")
 	case "PrepareStmt":
 		return m.wrapped(p, stmt, Prepare, body.text("name"), body, "AS")
@@ -237,7 +239,7 @@ func (m *maker) wrapped(p *Plan, stmt statement, kind Kind, name string, body no
 	p.Inner.sample, p.Inner.relations = "", nil
 	p.Inner.Asked, p.Inner.asked = false, nil // its parameters come later
 	if p.Inner.misplaced != nil {
-		p.misplaced = &Plan{Kind: p.Kind, Shape: p.Shape, Name: p.Name, Inner: p.Inner.misplaced}
+		p.misplaced = &Plan{Kind: p.Kind, Shape: p.Shape, Name: p.Name, Holds: p.Holds, Inner: p.Inner.misplaced}
 		p.Inner.misplaced = nil
 	}
 	return p

@@ -18,6 +18,7 @@ type maker struct {
 	depths  []int // how many parentheses each is in; a parenthesis itself counts as outside
 	shape   string
 	many    bool            // VALUES has more rows than are to be returned
+	named   int             // the token of a cursor's name that other statements with this plan may have otherwise, or nowhere
 	configs []int           // the tokens of the names that set_config sets, nowhere for one that is no constant
 	renames bool            // something else may change what names mean
 	cursor  bool            // the statement declares one
@@ -29,10 +30,11 @@ type maker struct {
 	// prepared: it is SQL's PREPARE. EXECUTE runs a statement before the server describes its result, so definitions may have
 	// changed in between.
 	prepared bool
+	merged   []node // the queries whose FROM and WHERE are copied, in order
 }
 
 func newMaker(c *catalog.Catalog, s *scanner) *maker {
-	m := &maker{catalog: c, text: s.text, tokens: append([]token(nil), s.tokens...), many: s.values.many}
+	m := &maker{catalog: c, text: s.text, tokens: append([]token(nil), s.tokens...), many: s.values.many, named: s.cursor()}
 	var joined strings.Builder
 	depth := 0
 	for i := range m.tokens {
@@ -195,7 +197,7 @@ func (m *maker) shorten() string {
 		if i > 0 && continues(m.tokens[i-1], t) {
 			continue
 		}
-		if value.is(t.kind, word) {
+		if value.is(t.kind, word) || i == m.named {
 			word = "?"
 		}
 		closes := t.kind == symbolToken && strings.Contains(",);].::", word)

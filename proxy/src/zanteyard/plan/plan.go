@@ -162,6 +162,7 @@ type Plan struct {
 	DefaultLevel record.Level
 	// TakesSnapshot means SET TRANSACTION SNAPSHOT: from then on the transaction reads from an older snapshot.
 	TakesSnapshot bool
+	Holds         bool   // DECLARE: the cursor is WITH HOLD
 	Chain         bool   // COMMIT or ROLLBACK begins the next transaction at once
 	All           bool   // CLOSE ALL
 	Name          string // of a cursor, prepared statement or savepoint, for kinds that have one
@@ -170,6 +171,7 @@ type Plan struct {
 	// has them.
 	Parts []*Plan
 
+	shared     *Plan       // the one that statements with other cursors' names have, if it is another one
 	insertions []insertion // in the text's order
 	asked      []askedPart
 	follow     *follow
@@ -181,6 +183,7 @@ type Plan struct {
 	sample     string
 	looksUp    bool          // some of Sources are looked up by their keys
 	plain      span          // the part of it that is the statement as it is, if Copied
+	merged     []int         // then: how many of Sources each part has that is asked for once more
 	rests      *atomic.Int64 // until when it isn't used, in nanoseconds; nil if it never rests
 	relations  []relation
 	target     uint32       // the relation whose row's version TellsVersion has
@@ -194,20 +197,27 @@ func (p *Plan) adds() bool { return len(p.insertions) > 0 }
 func (p *Plan) added() string {
 	all := ""
 	for _, one := range p.insertions {
-		all += one.text + one.tail
+		all += one.text
+		for _, its := range one.copies {
+			all += its.tail
+		}
 	}
 	return all
 }
 
 type tokenRange struct{ from, to int }
 
-// insertion is text that is inserted into a statement, before or after a token. If it has a copy of some tokens of the
-// statement, tail is what follows these.
+// insertion is text that is inserted into a statement, before or after a token. Copies of parts of the statement may follow.
 type insertion struct {
 	text   string
 	token  int
 	behind bool
-	copied tokenRange
+	copies []copied
+}
+
+// copied is a part of a statement that is copied, and what follows it.
+type copied struct {
+	tokens tokenRange
 	tail   string
 }
 

@@ -260,8 +260,16 @@ func told(t *testing.T, p *Plan, hidden [][]byte, binary bool, number string, ve
 		t.Errorf("it counts no rows: %q", hidden)
 	} else if ok {
 		want := uint64(0)
+		if p.Copied {
+			parts, _ := p.copiedIn(hidden[0], binary)
+			for _, part := range parts {
+				want += part.rows * uint64(len(part.lists))
+			}
+		}
 		for _, source := range p.Sources {
-			if source.Listed {
+			if p.Copied {
+				break
+			} else if source.Listed {
 				want += rows
 			} else {
 				want++

@@ -120,10 +120,10 @@ func (m *maker) sample(p *Plan, stmt statement, start int) string {
 	return text
 }
 
-// places are where an insertion goes in a text, and which part of the text it copies.
+// places are where an insertion goes in a text, and which parts of the text it copies.
 type places struct {
 	at     int
-	copied span
+	copied []span
 }
 
 // in returns an insertion's places in a text that begins at a byte of the one that has the tokens.
@@ -132,8 +132,8 @@ func (one insertion) in(tokens []token, begin int) places {
 	if one.behind {
 		its.at = int(tokens[one.token].last) - begin
 	}
-	if c := one.copied; c.to > 0 {
-		its.copied = span{tokens[c.from].start - int32(begin), tokens[c.to-1].last - int32(begin)}
+	for _, c := range one.copies {
+		its.copied = append(its.copied, span{tokens[c.tokens.from].start - int32(begin), tokens[c.tokens.to-1].last - int32(begin)})
 	}
 	return its
 }
@@ -145,8 +145,9 @@ func (m *maker) joinedPlaces(begin int) func(one insertion) places {
 		if one.behind {
 			its.at += len(m.word(one.token))
 		}
-		if c := one.copied; c.to > 0 {
-			its.copied = span{int32(m.offsets[c.from] - begin), int32(m.offsets[c.to-1] + len(m.word(c.to-1)) - begin)}
+		for _, one := range one.copies {
+			c := one.tokens
+			its.copied = append(its.copied, span{int32(m.offsets[c.from] - begin), int32(m.offsets[c.to-1] + len(m.word(c.to-1)) - begin)})
 		}
 		return its
 	}
@@ -185,7 +186,7 @@ func (m *maker) sound(p *Plan, stmt statement, field string) bool {
 	}
 	rewritten := trees[0].node("stmt")
 	if p.Copied {
-		return copyOf(stmt.tree, rewritten)
+		return m.copyOf(stmt.tree, rewritten)
 	}
 	_, body := only(rewritten)
 	if body.has("query") { // DECLARE, PREPARE

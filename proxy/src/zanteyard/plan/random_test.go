@@ -63,7 +63,11 @@ func TestRandomStatements(t *testing.T) {
 		text := ""
 		switch w.Intn(7) {
 		case 6:
-			text = w.merged()
+			if w.once(3) {
+				text = w.setOperation()
+			} else {
+				text = w.merged()
+			}
 		case 0:
 			text = w.insert()
 		case 1:

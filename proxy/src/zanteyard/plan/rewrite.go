@@ -12,9 +12,9 @@ type span struct{ from, to int32 }
 // Tokens are a plan's places in one text: where text is inserted, and where the constants are by which a key is asked
 // for.
 type Tokens struct {
-	at        int   // of the first insertion; nowhere if nothing is inserted
-	copied    span  // what the first one copies
-	further   []int // of the others
+	at        int    // of the first insertion; nowhere if nothing is inserted
+	copied    []span // what the first one copies
+	further   []int  // of the others
 	constants [maxAsked + 1]span
 	follow    []span
 	left      int // how many parameters lists were left without
@@ -53,7 +53,7 @@ func (p *Plan) Rewrite(text string, tokens Tokens) (rewritten string, inserted [
 func insert(text string, all []insertion, find func(one insertion) places) (string, []Inserted) {
 	size := len(text)
 	for _, one := range all {
-		size += len(one.text) + len(one.tail)
+		size += len(one.text)
 	}
 	var out strings.Builder
 	out.Grow(size)
@@ -63,8 +63,10 @@ func insert(text string, all []insertion, find func(one insertion) places) (stri
 		out.WriteString(text[last:its.at])
 		begin := out.Len()
 		out.WriteString(one.text)
-		out.WriteString(text[its.copied.from:its.copied.to])
-		out.WriteString(one.tail)
+		for i, copied := range its.copied {
+			out.WriteString(text[copied.from:copied.to])
+			out.WriteString(one.copies[i].tail)
+		}
 		inserted[i] = Inserted{begin, out.Len() - begin}
 		last = its.at
 	}

@@ -8,10 +8,15 @@ func (m *maker) selects(p *Plan, body node, start, end int) {
 	before := *p
 	before.Unseen = p.Unseen[:len(p.Unseen):len(p.Unseen)]
 	m.selectsRows(p, body, start, end)
-	if lists, _ := m.merges(body); !lists || len(p.Unseen) == len(before.Unseen) {
+	if lists, _ := m.merges(body); !lists && !body.has("larg") || len(p.Unseen) == len(before.Unseen) {
 		return
 	}
-	if its := before; m.repeats(&its, body, start, end) && (!p.adds() || len(its.Unseen) < len(p.Unseen)) {
+	its := before
+	if !m.repeats(&its, body, start, end) {
+		return
+	}
+	// A UNION ALL that doesn't sort may return rows before it has read all: then it isn't asked again.
+	if !p.adds() || len(its.Unseen) < len(p.Unseen) && (!body.has("larg") || body.has("sortClause")) {
 		*p = its
 	}
 }

@@ -136,6 +136,11 @@ type Transaction struct {
 	// OnlyRead means that its client rolled it back although none of its statements had failed, that it had written nothing,
 	// and that it ran at a level below serializable: what it read is as good as if it had been committed.
 	OnlyRead bool
+	// Held means that a cursor WITH HOLD has returned these reads, and nothing else was done: they were made in the snapshot of
+	// an earlier transaction of the connection, which wrote nothing, and Began, Ended and Level are that one's. What the
+	// connection has done since isn't in front of them. Of a connection such transactions come in the order of those.
+	// Uncounted means that it is a part of a transaction that is counted by itself.
+	Held, Uncounted bool
 	// After and Known bound when a transaction of another machine's proxy ran, by the joiner's clock: it began after the
 	// first (the zero time if that isn't known), and had ended by the second. Known is zero for the joiner's own proxy,
 	// whose clock is the joiner's.

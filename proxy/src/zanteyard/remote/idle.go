@@ -16,7 +16,7 @@ const mostIdle = 4096
 // bare is a transaction without all that is of no use if it isn't checked.
 func bare(it record.Transaction) record.Transaction {
 	return record.Transaction{Connection: it.Connection, Place: it.Place, Began: it.Began, Ended: it.Ended, Level: it.Level,
-		Outcome: it.Outcome, Number: it.Number, MayHaveWritten: it.MayHaveWritten, Unnumbered: it.Unnumbered, Defines: it.Defines,
+		Held: it.Held, Uncounted: it.Uncounted, Outcome: it.Outcome, Number: it.Number, MayHaveWritten: it.MayHaveWritten, Unnumbered: it.Unnumbered, Defines: it.Defines,
 		Elsewhere: it.Elsewhere, Unaudited: !it.Elsewhere, Did: it.Did.Alone(len(it.Reads))}
 }
 

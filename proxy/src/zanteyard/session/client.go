@@ -124,14 +124,8 @@ func (s *Session) usable(st *statement) bool {
 		(st.plan.Kind != plan.Declare || len(s.names.cursors) < mostCursors) && s.trust.usable(st.use, st)
 }
 
-// rewritable excludes cursors that return their rows outside their own transaction, or in another format than was asked
-// for.
-func rewritable(st *statement) bool {
-	return st.plan.Kind != plan.Prepare && (st.plan.Kind != plan.Declare || !differs(st.text))
-}
-
-// differs reports whether a cursor is, or may be, WITH HOLD or BINARY.
-func differs(declare string) bool { return mentions(declare, "hold") || mentions(declare, "binary") }
+// rewritable excludes statements of SQL's PREPARE, which have a twin (executes).
+func rewritable(st *statement) bool { return st.plan.Kind != plan.Prepare }
 
 func (s *Session) query(o *output, m []byte, start, end int) {
 	s.begin()

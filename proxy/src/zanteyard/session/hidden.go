@@ -41,7 +41,7 @@ func (s *Session) hidden(e *expectation, values [][]byte) {
 		e.asking.got(reads, err != nil || isWhole && uint64(len(reads)) != n, isWhole)
 		e.asking.shows = lists && n == 0 && p.ShowsTables(values, isBinary)
 	}
-	reason := s.tx.unreported()
+	reason, to := s.tx.unreported(), s.takes(e)
 	switch isOther := errors.Is(err, plan.ErrOtherRelation); {
 	case isOther || len(reads) > 0 && !e.knowsTables():
 		reason, err = otherRelation, nil
@@ -50,15 +50,18 @@ func (s *Session) hidden(e *expectation, values [][]byte) {
 		}
 	case e.replaced || s.trust.taken:
 		reason = maybeAnother
+	case reason == "":
+		reason = s.unheld(e)
 	}
 	if reason != "" && len(reads) > 0 {
-		s.notSeen(p.Shape, reason, true)
+		s.options.Sink.Unseen(p.Shape, reason, true)
+		to.Partly = true
 		e.missed, e.why = e.missed+int(isOne(counts)), reason
 	} else {
 		if p.Copied {
 			e.copied = append(e.copied[:0], reads...)
 		} else {
-			s.tx.read(reads, s.options.ReadLimit, counts && isWhole)
+			to.read(reads, s.options.ReadLimit, counts && isWhole)
 		}
 		switch {
 		case !counts:

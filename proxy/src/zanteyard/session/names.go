@@ -4,6 +4,7 @@ import (
 	"bytes"
 
 	"zanteyard/plan"
+	"zanteyard/record"
 	"zanteyard/wire"
 )
 
@@ -91,9 +92,13 @@ type names struct {
 
 // cursor is a cursor whose rows have hidden columns.
 type cursor struct {
-	plan *plan.Plan
-	era  uint64 // of trust, when it was declared
-	own  int    // columns of the client's own
+	plan  *plan.Plan
+	era   uint64           // of trust, when it was declared
+	own   int              // columns of the client's own
+	holds bool             // it is WITH HOLD
+	held  *heldBy          // nil as long as its transaction runs
+	again bool             // its SELECT is counted as one of which all was seen
+	said  record.Statement // its DECLARE, if that is kept
 }
 
 // neverEra: nothing is told of what a portal of the protocol's returns to SQL's FETCH.
@@ -111,7 +116,7 @@ func (n *names) cursor(name string) *cursor {
 	return nil
 }
 
-func (p *portal) cursor() *cursor { return &cursor{p.hides, neverEra, p.own} }
+func (p *portal) cursor() *cursor { return &cursor{plan: p.hides, era: neverEra, own: p.own} }
 
 // fetchable reports whether FETCH may return hidden columns.
 func (n *names) fetchable() bool {
@@ -193,8 +198,8 @@ func (n *names) back(e *expectation) {
 	}
 }
 
-// ended forgets what ends with a transaction: the protocol's portals, and cursors (those WITH HOLD aren't rewritten). A portal
-// whose Bind isn't answered yet is bound behind the end, and stays.
+// ended forgets what ends with a transaction: the protocol's portals, and cursors that don't outlive it. A portal whose Bind
+// isn't answered yet is bound behind the end, and stays.
 func (n *names) ended(q *queue) {
 	var later []string
 	if len(n.portals) > 0 {
@@ -205,11 +210,13 @@ func (n *names) ended(q *queue) {
 			delete(n.portals, k)
 		}
 	}
-	for k := range n.cursors {
-		delete(n.cursors, k)
-		delete(n.unread, k) // another one may have the name
+	for k, c := range n.cursors {
+		if c.held == nil {
+			delete(n.cursors, k)
+			delete(n.unread, k) // another one may have the name
+		}
 	}
-	n.unsure = false
+	n.unsure = n.unsure && len(n.cursors) > 0
 }
 
 func contains(names []string, name string) bool {

@@ -63,6 +63,7 @@ type expectation struct {
 	isOver   bool    // the server has shown that it is run over the tables of its plan
 	guessed  bool    // it was recognized by its columns
 	asking   *asking // what it asks for by a condition, nil if that isn't followed
+	of       *cursor // whose rows it returns, if it is known by name
 	// What names stood for before this message, if it changes that: restored if the server doesn't get to it.
 	undo     undo
 	name     string

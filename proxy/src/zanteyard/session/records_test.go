@@ -382,35 +382,3 @@ func TestPreparedBefore(t *testing.T) {
 		t.Errorf("%d reads were told", n)
 	}
 }
-
-// TestCursorsThatArentSeen: rows that a cursor returns after its transaction, or in its own format, aren't reads of any
-// transaction, and are counted by reason.
-func TestCursorsThatArentSeen(t *testing.T) {
-	needServer(t)
-	sql(t, fill)
-	for _, kind := range []string{"c CURSOR WITH HOLD", "c BINARY CURSOR"} {
-		texts := []string{"BEGIN ISOLATION LEVEL REPEATABLE READ", "DECLARE " + kind + " FOR SELECT id, v FROM t ORDER BY id",
-			"FETCH 1 FROM c", "UPDATE t SET v = 5 WHERE id = 3", "COMMIT", "FETCH 2 FROM c", "CLOSE ALL"}
-		p := through(t, "postgres", nil)
-		p.warm(texts...)
-		for _, text := range texts {
-			p.query(text)
-		}
-		p.settle()
-		got, rows := p.sink.take(), uint64(0)
-		for _, it := range got {
-			_, _, more := it.Did.Sum(len(it.Reads))
-			rows += more
-		}
-		want, wantRows := 1, uint64(1)
-		if strings.HasSuffix(kind, "HOLD") { // FETCH has a transaction of its own after COMMIT
-			want, wantRows = 2, 3
-		}
-		if len(got) != want || rows != wantRows || len(got[0].Reads) != 0 || got[0].Number == 0 {
-			t.Errorf("%s: %d rows of %d, told %+v", kind, rows, wantRows, got)
-		}
-		if !p.sink.left("a cursor WITH HOLD or BINARY") {
-			t.Errorf("%s: that it was left out isn't told: %q", kind, p.sink.unseen)
-		}
-	}
-}

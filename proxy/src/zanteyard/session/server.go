@@ -216,7 +216,7 @@ func (s *Session) fetched(e *expectation) {
 		return
 	}
 	if p := s.names.cursor(fetch.Name); p != nil {
-		e.hides, e.hidden, e.replaced = p.plan, hiddenColumns(p.plan), p.era != e.era
+		e.of, e.hides, e.hidden, e.replaced = p, p.plan, hiddenColumns(p.plan), p.era != e.era
 		e.isOver = e.isOver || e.at != nil && e.at.told != nil && e.at.told.of == p && e.at.told.isOver
 	}
 }

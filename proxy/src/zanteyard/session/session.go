@@ -120,7 +120,8 @@ type Session struct {
 	trial       *trial
 	tx          transaction
 	place       uint64
-	defines     bool // the transaction changes definitions
+	heldPlace   uint64 // of the last transaction whose cursor WITH HOLD was reported
+	defines     bool   // the transaction changes definitions
 	now         time.Time
 	slow        time.Time // until then no statement waits for a trial
 	toClient    output
@@ -222,6 +223,7 @@ func (s *Session) over() {
 		}
 	}
 	s.now = clock()
+	s.drops("")
 	s.finish(outcome)
 	if h := s.hold.Load(); h != nil {
 		h.end()

@@ -76,7 +76,7 @@ func (e *expectation) piece(i int) {
 	e.part = i
 	e.hides, e.hidden, e.changed, e.use, e.rows, e.loose, e.made, e.asking = nil, 0, false, nil, 0, 0, 0, nil
 	e.beyond, e.missed, e.copied = 0, 0, e.copied[:0]
-	e.isOver = false
+	e.isOver, e.of = false, nil
 	if i >= len(e.pieces) {
 		return
 	}

@@ -49,7 +49,11 @@ func (s *Session) sums(p *plan.Plan, e *expectation, tag []byte, reason string) 
 		s.names.unseen(p.Name, "")
 	case !inner.Touches():
 	case p.Kind == plan.Declare:
+		before := s.tx.Did.Again
 		s.sumSelect(inner, e, reason, 0)
+		if c := s.names.cursors[p.Name]; c != nil {
+			c.again = s.tx.Did.Again > before
+		}
 		s.names.unseen(p.Name, s.whyUnseen(inner, e, reason))
 	case inner.Kind == plan.Copy && verb == "COPY" && len(inner.Unseen) > 0:
 		s.sumSelect(inner, e, inner.Unseen[0].Reason, n)
@@ -104,21 +108,26 @@ var mayTouch = regexp.MustCompile(`(?i)from|table|\(|update|insert|delete|merge|
 
 // sumFetched counts rows of a cursor: its SELECT was counted with DECLARE.
 func (s *Session) sumFetched(p *plan.Plan, e *expectation, verb string) {
+	if verb != "FETCH" {
+		return
+	}
+	s.fetched(e) // if it returned nothing
 	reason, known := s.names.unread[p.Name]
+	d := &s.takes(e).Did
 	switch {
-	case verb != "FETCH" || e.rows == 0 && (e.hides != nil || !known):
+	case e.rows == 0 && (e.hides != nil || !known):
 	case e.hides != nil && len(e.hides.Unseen) == 0:
 		if e.beyond > 0 {
-			s.tx.Did.Leave(s.whyBeyond(e.hides), true, 0, 0, uint64(e.beyond))
+			d.Leave(s.whyBeyond(e.hides), true, 0, 0, uint64(e.beyond))
 		}
 		if e.loose > 0 {
-			s.tx.Did.Leave(whyLoose(e.hides), true, 0, 0, uint64(e.loose))
+			d.Leave(whyLoose(e.hides), true, 0, 0, uint64(e.loose))
 		}
 		if e.missed > 0 {
-			s.tx.Did.Leave(e.why, true, 0, 0, uint64(e.missed))
+			d.Leave(e.why, true, 0, 0, uint64(e.missed))
 		}
 	case e.hides != nil:
-		s.tx.Did.Leave(e.hides.Unseen[0].Reason, true, 0, 0, uint64(e.rows))
+		d.Leave(e.hides.Unseen[0].Reason, true, 0, 0, uint64(e.rows))
 	case !known:
 		s.fetchedUnseen(anyCursor, e)
 	case reason != "":

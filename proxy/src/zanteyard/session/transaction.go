@@ -51,6 +51,9 @@ type transaction struct {
 	// says whether it has only at the end. What follows is left out until then.
 	parted bool
 	erred  bool // one of its statements failed
+	// asides are what cursors WITH HOLD have returned in it, that other transactions declared; of is such a cursor.
+	asides []*transaction
+	of     *cursor
 	// unlooked means that a statement of it wasn't looked at, and unasked why its number wasn't asked for before COMMIT.
 	unlooked bool
 	unasked  string
@@ -177,8 +180,9 @@ func (s *Session) begin() {
 
 // finish reports the transaction that has ended, and begins another.
 func (s *Session) finish(outcome record.Outcome) {
-	t := &s.tx
-	if !t.empty() {
+	t, counted := &s.tx, false
+	if s.outlive(t, outcome); !t.empty() {
+		counted = true
 		t.Connection, t.Place = s.number, s.place
 		s.place++
 		t.Ended, t.Outcome = s.now, outcome
@@ -194,6 +198,7 @@ func (s *Session) finish(outcome record.Outcome) {
 		t.Application = s.application
 		s.report(&t.Transaction)
 	}
+	s.finishHeld(t, counted)
 	s.set(outcome)
 	s.trust.resetBy(t, outcome)
 	if s.defines {
@@ -216,7 +221,7 @@ func (s *Session) report(it *record.Transaction) {
 		return
 	}
 	told := record.Transaction{Connection: it.Connection, Place: it.Place, Began: it.Began, Ended: it.Ended, Level: it.Level,
-		Outcome: it.Outcome, Did: it.Did.Alone(len(it.Reads))}
+		Outcome: it.Outcome, Held: it.Held, Uncounted: it.Uncounted, Did: it.Did.Alone(len(it.Reads))}
 	if s.trust.elsewhere && audits { // as an audit ends, its mark goes first
 		told.Elsewhere = true
 	} else {
@@ -360,18 +365,15 @@ func (s *Session) did(p *plan.Plan, e *expectation, tag []byte) {
 		s.names.ended(&s.queue)
 		return
 	case plan.Declare:
-		if e.changed {
-			s.names.cursors[p.Name] = &cursor{p.Inner, e.era, ownColumns(e)}
-		} else {
-			delete(s.names.cursors, p.Name)
+		if s.drops(p.Name); e.changed {
+			s.names.cursors[p.Name] = cursorOf(p, e)
 		}
 	case plan.CloseCursor:
-		if p.All {
-			for k := range s.names.cursors {
-				delete(s.names.cursors, k)
-			}
+		s.drops(p.Name)
+	case plan.DiscardAll:
+		if string(tag) == "DISCARD ALL" { // DEALLOCATE ALL leaves them
+			s.drops("")
 		}
-		delete(s.names.cursors, p.Name)
 	case plan.Begin:
 		t.block = true
 	case plan.Write:
@@ -388,7 +390,11 @@ func (s *Session) did(p *plan.Plan, e *expectation, tag []byte) {
 	}
 	t.MayHaveWritten = t.MayHaveWritten || p.MayWriteUnseen
 	t.Touched = t.Touched || rows(p).Touches()
-	s.leftOut(p, e, s.note(e), tag)
+	noted := s.note(e)
+	if c := s.names.cursors[p.Name]; p.Kind == plan.Declare && c != nil && noted != nil {
+		c.said = *noted
+	}
+	s.leftOut(p, e, noted, tag)
 }
 
 // mayHaveChanged reports whether a statement that writes may have written a row: if its rows report the transaction's
@@ -436,9 +442,6 @@ func (s *Session) leftOut(p *plan.Plan, e *expectation, noted *record.Statement,
 		reason = s.trust.why(e.use)
 		if !s.understands(p) {
 			reason = namesBeyond
-		}
-		if p.Kind == plan.Declare && differs(p.Shape) {
-			reason = "a cursor WITH HOLD or BINARY"
 		}
 		if isWrite := p.Kind == plan.Write; isWrite && len(p.Sources) == 0 {
 			s.options.Sink.Unseen(p.Shape, reason, false) // if the transaction's number is known, all of it is

@@ -114,7 +114,7 @@ func (s *Session) tryOne(out []byte, u *use) []byte {
 	}
 	texts, types := want.Statements, []byte{0, 0}
 	plain := want.Plain
-	if st := u.sample; st != nil && st.text != "" && st.plan == u.plan && rows(u.plan) == u.plan {
+	if st := u.sample; st != nil && st.text != "" && st.plan.Shared() == u.plan && rows(u.plan) == u.plan {
 		text, inserted := u.plan.Rewrite(st.text, st.tokens)
 		texts = []string{text}
 		if plain = st.text; want.Plain == "" || inserted == nil {

@@ -38,6 +38,7 @@ type use struct {
 
 // of returns what is known about a plan, or nil if the plan adds nothing.
 func (t *trust) of(p *plan.Plan) *use {
+	p = p.Shared()
 	u := t.uses[p]
 	if u == nil {
 		n := hiddenColumns(p)
