@@ -91,6 +91,18 @@ func (s *Session) drops(name string) {
 	}
 }
 
+// limit returns how many reads of a transaction are kept: what all cursors WITH HOLD have returned in one has one limit.
+func (s *Session) limit(of *transaction) int {
+	most := s.options.ReadLimit
+	if of != &s.tx {
+		for _, its := range s.tx.asides {
+			most -= len(its.Reads)
+		}
+		most += len(of.Reads)
+	}
+	return most
+}
+
 // unheld returns why what a statement returns of a cursor WITH HOLD can't be reported, or "".
 func (s *Session) unheld(e *expectation) string {
 	if e.of == nil || e.of.held == nil {

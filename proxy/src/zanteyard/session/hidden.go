@@ -61,7 +61,7 @@ func (s *Session) hidden(e *expectation, values [][]byte) {
 		if p.Copied {
 			e.copied = append(e.copied[:0], reads...)
 		} else {
-			to.read(reads, s.options.ReadLimit, counts && isWhole)
+			to.read(reads, s.limit(to), counts && isWhole)
 		}
 		switch {
 		case !counts:
