@@ -29,8 +29,16 @@ func (m *maker) query(stmt statement, name string, body node, start int) *Plan {
 		p.leaveOut("a subquery")
 	}
 	m.with = withNames(body)
-	if body.has("withClause") && (name != "SelectStmt" || !m.opensWith(body)) {
-		p.leaveOut(aWith)
+	if body.has("withClause") {
+		opens := false
+		if name == "SelectStmt" {
+			opens = m.opensWith(body)
+		} else { // as of VALUES that an UPDATE joins
+			opens = !writesWithin(body["withClause"]) && !m.readsTables(body.node("withClause"))
+		}
+		if !opens {
+			p.leaveOut(aWith)
+		}
 	}
 	field := "returningList"
 	switch name {

@@ -5,10 +5,14 @@ package plan
 
 const numberColumn = "pg_catalog.pg_current_xact_id_if_assigned()"
 
+// joinedTables is why rows aren't seen that an UPDATE or DELETE joins.
+const joinedTables = "tables of an UPDATE or DELETE that it doesn't change"
+
 func (m *maker) inserts(p *Plan, body node, end int) {
 	target := m.target(p, body.node("relation"))
 	selected := body.node("selectStmt").node("SelectStmt")
-	if selected.has("fromClause") || selected.has("op") && selected.text("op") != "SETOP_NONE" {
+	if selects := selected.has("fromClause") || selected.has("op") && selected.text("op") != "SETOP_NONE"; selects &&
+		(m.readsTables(node{"selectStmt": body["selectStmt"], "withClause": body["withClause"]}) || writesWithin(body["withClause"])) {
 		p.leaveOut("what INSERT selects")
 	}
 	conflict := body.node("onConflictClause")
@@ -30,9 +34,10 @@ func (m *maker) inserts(p *Plan, body node, end int) {
 // changes plans UPDATE and DELETE, which have their other tables in a field.
 func (m *maker) changes(p *Plan, body node, end int, others string) {
 	target := m.target(p, body.node("relation"))
+	joins := m.readsTables(node{others: body[others], "withClause": body["withClause"]})
 	if target == nil {
-		if body.has(others) {
-			p.leaveOut("tables of an UPDATE or DELETE that it doesn't change")
+		if joins {
+			p.leaveOut(joinedTables)
 		}
 		return
 	}
@@ -45,8 +50,8 @@ func (m *maker) changes(p *Plan, body node, end int, others string) {
 	p.ByKey = key != nil
 	m.asksToWrite(p, name, body, others)
 	if !m.mayReturn(p, body, target, key != nil || current == "CurrentOfExpr") {
-		if body.has(others) {
-			p.leaveOut("tables of an UPDATE or DELETE that it doesn't change")
+		if joins {
+			p.leaveOut(joinedTables)
 		}
 		return
 	}
