@@ -8,9 +8,11 @@ import (
 	"testing"
 
 	"github.com/jackc/pgconn"
+
+	"zanteyard/statements"
 )
 
-// many makes the tables of nasty large enough for the server to use their indexes.
+// many makes the tables of statements.Schema large enough for the server to use their indexes.
 const many = `
 INSERT INTO a SELECT i, i % 100, 's' || i FROM generate_series(10, 3000) i;
 INSERT INTO "A" SELECT * FROM a ON CONFLICT DO NOTHING;
@@ -23,15 +25,15 @@ CREATE INDEX ON "select" (n)`
 // TestPlansOfTheServer explains random statements: rewritten as a session would use them, they read no additional table,
 // and none for which an index alone was enough, except for one row by its key.
 func TestPlansOfTheServer(t *testing.T) {
-	connection := connect(t, "explained", nasty)
+	connection := connect(t, "explained", statements.Schema)
 	for _, sql := range []string{many, "VACUUM ANALYZE", "SET enable_seqscan TO off; SET enable_bitmapscan TO off"} {
 		run(t, connection, sql)
 	}
 	cache := NewCache(load(t, connection))
 	explained, left, used := 0, 0, 0
 	for seed := 0; seed < wanted(600); seed++ {
-		w := &writer{Rand: rand.New(rand.NewSource(int64(seed)))}
-		text := w.query()
+		w := statements.New(rand.New(rand.NewSource(int64(seed))))
+		text := w.Query()
 		p, tokens := cache.Plan(text)
 		if !p.adds() || strings.Contains(text, "$1") {
 			continue

@@ -6,6 +6,8 @@ import (
 	"path/filepath"
 	"strings"
 	"testing"
+
+	"zanteyard/statements"
 )
 
 // corpus has texts to mutate: those of the driver's scripts, deep ones, and generated ones.
@@ -31,8 +33,8 @@ func corpus(t *testing.T, r *rand.Rand) []string {
 		all = append(all, text)
 	}
 	for i := 0; i < 200; i++ {
-		w := &writer{Rand: r}
-		all = append(all, w.query(), w.change(), w.insert())
+		w := statements.New(r)
+		all = append(all, w.Query(), w.Change(), w.Insert())
 	}
 	return append(all, "CREATE FUNCTION f() RETURNS int BEGIN ATOMIC SELECT 1; SELECT 2; END",
 		"MERGE INTO a USING b ON a.id = b.id WHEN MATCHED AND a.n > 1 THEN UPDATE SET n = 2 WHEN NOT MATCHED THEN INSERT VALUES (1)",

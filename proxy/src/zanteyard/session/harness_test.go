@@ -110,8 +110,8 @@ func TestMain(m *testing.M) {
 }
 
 func config() *pgconn.Config {
-	c, err := pgconn.ParseConfig(fmt.Sprintf("postgresql://postgres@127.0.0.1:%d/postgres?sslmode=disable",
-		theCluster.Port))
+	c, err := pgconn.ParseConfig(fmt.Sprintf("postgresql://postgres@127.0.0.1:%d/%s?sslmode=disable",
+		theCluster.Port, database_))
 	if err != nil {
 		panic(err)
 	}
@@ -229,6 +229,9 @@ var connections uint64
 // early_ is what the next client sends before the server is ready for it.
 var early_ []byte
 
+// database_ is the one that clients connect to.
+var database_ = "postgres"
+
 // pooler_ is the port of a pooler between sessions and the server, 0 for none.
 var pooler_ int
 
@@ -329,7 +332,7 @@ func until(t testing.TB, what string, f func() bool) {
 
 func startupMessage(user string) []byte {
 	return (&pgproto3.StartupMessage{ProtocolVersion: pgproto3.ProtocolVersionNumber,
-		Parameters: map[string]string{"user": user, "database": "postgres", "application_name": "test"}}).Encode(nil)
+		Parameters: map[string]string{"user": user, "database": database_, "application_name": "test"}}).Encode(nil)
 }
 
 // client speaks the protocol message by message.

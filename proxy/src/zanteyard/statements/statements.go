@@ -1,4 +1,6 @@
-package plan
+// Package statements makes random statements for tests, of all shapes that a plan distinguishes, over tables whose names are
+// hard to quote.
+package statements
 
 import (
 	"fmt"
@@ -6,26 +8,80 @@ import (
 	"strings"
 )
 
-var nastyTables = []string{"a", `"A"`, `"select"`, `"a ""q"" b"`, `"Ünï-çödé"`, `"returning"`, `"x.y"."t'k\b"`, "link",
+// tables are those of Schema, and some ways to write them.
+var tables = []string{"a", `"A"`, `"select"`, `"a ""q"" b"`, `"Ünï-çödé"`, `"returning"`, `"x.y"."t'k\b"`, "link",
 	"parts", "typed", "bare", "look", "public.a", `public."select"`, "parts_low", "A"}
 
-// writer makes random statements. Each word is followed by a random space or comment.
-type writer struct {
+// Schema is a schema whose names are hard to quote.
+const Schema = `
+CREATE TABLE a (id int PRIMARY KEY, n int, s text);
+CREATE TABLE "A" (id int PRIMARY KEY, n int, s text);
+CREATE TABLE "select" (id int PRIMARY KEY, n int, "from" text, "Where" int);
+CREATE TABLE "a ""q"" b" (id int, "x,y" int, n int, s text, PRIMARY KEY ("x,y", id));
+CREATE TABLE "Ünï-çödé" ("id" int PRIMARY KEY, n int, s text, "π" int);
+CREATE TABLE "returning" (id int, n int PRIMARY KEY, s text, "returning" int);
+CREATE SCHEMA "x.y";
+CREATE TABLE "x.y"."t'k\b" (id int PRIMARY KEY, n int, s text);
+CREATE TABLE link (id int, n int, PRIMARY KEY (id, n));
+CREATE TABLE parts (id int, n int, s text, PRIMARY KEY (n, id)) PARTITION BY RANGE (n);
+CREATE TABLE parts_low PARTITION OF parts FOR VALUES FROM (MINVALUE) TO (3);
+CREATE TABLE parts_high PARTITION OF parts FOR VALUES FROM (3) TO (MAXVALUE);
+CREATE TABLE typed (id int, n int, at timestamptz, u uuid, d numeric, s text, PRIMARY KEY (at, u, d));
+CREATE TABLE bare (id int, n int, s text);
+CREATE VIEW look AS SELECT * FROM a;
+CREATE INDEX ON a (n, s);
+CREATE FUNCTION filled(VARIADIC names text[]) RETURNS void LANGUAGE plpgsql AS $$
+DECLARE name text;
+BEGIN
+  FOREACH name IN ARRAY names LOOP
+    EXECUTE format('INSERT INTO %s (id, n) SELECT i, i %% 4 FROM generate_series(1, 6) i', name);
+  END LOOP;
+END$$;
+SELECT filled('a', '"A"', '"select"', '"Ünï-çödé"', '"x.y"."t''k\b"', 'link', 'parts', 'bare');
+INSERT INTO "a ""q"" b" SELECT i, i % 3, i % 4, 's' || i FROM generate_series(1, 6) i;
+INSERT INTO "returning" SELECT i % 4, i, 's' || i, i FROM generate_series(1, 6) i;
+INSERT INTO typed SELECT i, i % 4, 'epoch'::timestamptz + i * interval '1 day',
+  ('00000000-0000-0000-0000-00000000000' || i)::uuid, i / 4.0, 's' || i FROM generate_series(1, 6) i;
+UPDATE a SET s = 's' || id; DELETE FROM "A" WHERE id = 2; UPDATE parts SET n = n + 1 WHERE id = 1;
+DROP FUNCTION filled;
+`
+
+// New returns a Writer that draws from these random numbers.
+func New(r *rand.Rand) *Writer { return &Writer{Rand: r} }
+
+// Statement writes one of any shape.
+func (w *Writer) Statement() string {
+	switch w.Intn(7) {
+	case 6:
+		if w.once(3) {
+			return w.SetOperation()
+		}
+		return w.Merged()
+	case 0:
+		return w.Insert()
+	case 1:
+		return w.Change()
+	}
+	return w.Query()
+}
+
+// Writer makes random statements. Each word is followed by a random space or comment.
+type Writer struct {
 	*rand.Rand
 	words []string
 	names []string // of the tables in FROM, as they are referred to
 	with  []string // of the parts of WITH
 }
 
-func (w *writer) say(words ...string) {
+func (w *Writer) say(words ...string) {
 	w.words = append(w.words, words...)
 }
 
-func (w *writer) pick(words ...string) string { return words[w.Intn(len(words))] }
-func (w *writer) once(in int) bool            { return w.Intn(in) == 0 }
+func (w *Writer) pick(words ...string) string { return words[w.Intn(len(words))] }
+func (w *Writer) once(in int) bool            { return w.Intn(in) == 0 }
 
 // text joins the words.
-func (w *writer) text() string {
+func (w *Writer) text() string {
 	var out strings.Builder
 	if w.once(4) {
 		out.WriteString(w.pick("/* SELECT 'x FROM y */", "-- RETURNING\n", "\t"))
@@ -48,7 +104,7 @@ func (w *writer) text() string {
 }
 
 // column returns a reference to a column of the tables in FROM.
-func (w *writer) column() []string {
+func (w *Writer) column() []string {
 	if len(w.names) == 0 {
 		return []string{"1"}
 	}
@@ -59,11 +115,11 @@ func (w *writer) column() []string {
 	return []string{w.pick(w.names...), ".", column}
 }
 
-func (w *writer) number() string {
+func (w *Writer) number() string {
 	return w.pick("0", "1", "2", "3", "4", "5", "6", "'3'", "-1", "2.5", "$$4$$::int", "1::int8", "$1::int")
 }
 
-func (w *writer) expression(depth int) {
+func (w *Writer) expression(depth int) {
 	if depth <= 0 {
 		if w.once(3) {
 			w.say(w.number())
@@ -92,7 +148,7 @@ func (w *writer) expression(depth int) {
 	case 3:
 		w.say("substring", "(", w.pick("'from'", "E'a\\'b'", `U&'\0041'`), "from", "1", "for", "2", ")", "::", "text", "=", "'f'")
 	case 4:
-		w.say("(", "SELECT", w.pick("count(*)", "max(id)", "min(n)"), "FROM", w.pick(nastyTables[:8]...), "q", "WHERE", "q", ".", "id", "=")
+		w.say("(", "SELECT", w.pick("count(*)", "max(id)", "min(n)"), "FROM", w.pick(tables[:8]...), "q", "WHERE", "q", ".", "id", "=")
 		w.expression(0)
 		w.say(")")
 	case 5:
@@ -106,7 +162,7 @@ func (w *writer) expression(depth int) {
 	}
 }
 
-func (w *writer) condition(depth int) {
+func (w *Writer) condition(depth int) {
 	if depth <= 0 {
 		w.expression(0)
 		w.say(w.pick("=", "<", ">=", "<>", "IS DISTINCT FROM", "IS NOT DISTINCT FROM", "="))
@@ -126,7 +182,7 @@ func (w *writer) condition(depth int) {
 		w.expression(0)
 		w.say("IN", "(", w.number(), ",", w.number(), ",", "NULL", ")")
 	case 3:
-		w.say("EXISTS", "(", "SELECT", "1", "FROM", w.pick(nastyTables...), "e", "WHERE", "e", ".", "id", "=")
+		w.say("EXISTS", "(", "SELECT", "1", "FROM", w.pick(tables...), "e", "WHERE", "e", ".", "id", "=")
 		w.expression(0)
 		w.say(")")
 	case 4:
@@ -138,7 +194,7 @@ func (w *writer) condition(depth int) {
 }
 
 // table writes a table of FROM, and its name.
-func (w *writer) table() {
+func (w *Writer) table() {
 	if w.once(8) {
 		w.say(w.pick("LATERAL", ""))
 		w.subquery(2)
@@ -156,7 +212,7 @@ func (w *writer) table() {
 		w.names = append(w.names, fmt.Sprintf("v%d", len(w.names)))
 		return
 	}
-	table := w.pick(nastyTables...)
+	table := w.pick(tables...)
 	if w.once(10) {
 		w.say("ONLY")
 	}
@@ -170,8 +226,8 @@ func (w *writer) table() {
 }
 
 // subquery writes a SELECT in parentheses that has the columns id and n, and maybe more.
-func (w *writer) subquery(depth int) {
-	table := w.pick(nastyTables...)
+func (w *Writer) subquery(depth int) {
+	table := w.pick(tables...)
 	w.say("(", "SELECT")
 	if w.once(8) {
 		w.say(w.pick("DISTINCT", "DISTINCT ON (q.id)", "ALL"))
@@ -184,9 +240,9 @@ func (w *writer) subquery(depth int) {
 		w.subquery(depth - 1)
 		w.say("q")
 	case w.once(6):
-		w.say(table, "q", "JOIN", w.pick(nastyTables...), "r", "USING", "(", "id", ",", "n", ")")
+		w.say(table, "q", "JOIN", w.pick(tables...), "r", "USING", "(", "id", ",", "n", ")")
 	case w.once(6):
-		w.say(table, "q", "LEFT JOIN", w.pick(nastyTables...), "r", "ON", "r.id = q.n", "AND", "q.id > 2")
+		w.say(table, "q", "LEFT JOIN", w.pick(tables...), "r", "ON", "r.id = q.n", "AND", "q.id > 2")
 	default:
 		w.say(table, "q")
 	}
@@ -203,7 +259,7 @@ func (w *writer) subquery(depth int) {
 	w.say(")")
 }
 
-func (w *writer) alias() {
+func (w *Writer) alias() {
 	name := w.pick("x", `"X"`, `"from"`, `"a ""b"`, `"ü"`, "é") + ""
 	if n := len(w.names); n > 0 && w.Intn(8) > 0 {
 		name = w.pick("y", `"Y z"`, `"1"`) + ""
@@ -215,7 +271,7 @@ func (w *writer) alias() {
 	w.names = append(w.names, name)
 }
 
-func (w *writer) from() {
+func (w *Writer) from() {
 	w.say("FROM")
 	w.table()
 	for n := w.Intn(5) - 2; n > 0; n-- {
@@ -243,7 +299,7 @@ func (w *writer) from() {
 }
 
 // aggregate writes a SELECT whose aggregates have the same result in any order of the rows.
-func (w *writer) aggregate() string {
+func (w *Writer) aggregate() string {
 	w.say("SELECT")
 	head := w.words
 	w.words = nil
@@ -277,7 +333,7 @@ func (w *writer) aggregate() string {
 }
 
 // union writes a UNION ALL.
-func (w *writer) union() string {
+func (w *Writer) union() string {
 	for i, parts := 0, 2+w.Intn(3); i < parts; i++ {
 		inside := w.once(6)
 		if i > 0 {
@@ -292,7 +348,7 @@ func (w *writer) union() string {
 		case 0:
 			w.say("1", ",", "2", "AS", w.pick("union", "x", "order"), w.pick("", "WHERE true"))
 		case 1:
-			w.say("count(*)", ",", "max(n)", "FROM", w.pick(nastyTables...))
+			w.say("count(*)", ",", "max(n)", "FROM", w.pick(tables...))
 		default:
 			head := w.words
 			w.words = nil
@@ -316,7 +372,8 @@ func (w *writer) union() string {
 	return w.text()
 }
 
-func (w *writer) query() string {
+// Query writes one.
+func (w *Writer) Query() string {
 	switch w.Intn(12) {
 	case 0, 1:
 		return w.aggregate()
@@ -376,7 +433,7 @@ func (w *writer) query() string {
 		w.say(w.pick("", "", ", 1", ", 2"))
 	}
 	if w.once(12) {
-		w.say(w.pick("UNION", "UNION ALL", "EXCEPT"), "SELECT", "1", "FROM", w.pick(nastyTables...))
+		w.say(w.pick("UNION", "UNION ALL", "EXCEPT"), "SELECT", "1", "FROM", w.pick(tables...))
 	}
 	limit := w.pick("", "", "", "LIMIT 2", "OFFSET 1", "LIMIT 3 OFFSET 1", "FETCH FIRST 2 ROWS ONLY", "FETCH NEXT ROW WITH TIES")
 	total := limit != "" || strings.HasPrefix(distinct, "DISTINCT ON") // it must be certain which rows these are
@@ -397,19 +454,20 @@ func (w *writer) query() string {
 	return w.text()
 }
 
-func (w *writer) returning() {
+func (w *Writer) returning() {
 	if w.once(2) {
 		w.say("RETURNING", w.pick("id", "n AS from", "id + n, 'x'", "n -- x\n", w.names[0]+".*"))
 	}
 }
 
-func (w *writer) insert() string {
-	table := w.pick(nastyTables...)
+// Insert writes one.
+func (w *Writer) Insert() string {
+	table := w.pick(tables...)
 	w.names = []string{"x"}
 	w.say("INSERT", "INTO", table, "AS", "x", "(", "id", ",", "n", ")")
 	switch w.Intn(4) {
 	case 0:
-		w.say("SELECT", "id", "+", "100", ",", "n", "FROM", w.pick(nastyTables...))
+		w.say("SELECT", "id", "+", "100", ",", "n", "FROM", w.pick(tables...))
 	default:
 		w.say("VALUES")
 		for i := w.Intn(4); i >= 0; i-- {
@@ -424,7 +482,8 @@ func (w *writer) insert() string {
 	return w.text()
 }
 
-func (w *writer) change() string {
+// Change writes one.
+func (w *Writer) Change() string {
 	update := w.once(2)
 	if update {
 		w.say("UPDATE")

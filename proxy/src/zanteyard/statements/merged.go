@@ -1,7 +1,7 @@
-package plan
+package statements
 
-// merged writes a SELECT that makes one row of several, in any order, with conditions that are no error for any row.
-func (w *writer) merged() string {
+// Merged writes a SELECT that makes one row of several, in any order, with conditions that are no error for any row.
+func (w *Writer) Merged() string {
 	w.say("SELECT")
 	head := w.words
 	w.words = nil
@@ -30,8 +30,8 @@ func (w *writer) merged() string {
 	return w.text()
 }
 
-// setOperation writes a UNION, INTERSECT or EXCEPT of such parts.
-func (w *writer) setOperation() string {
+// SetOperation writes a UNION, INTERSECT or EXCEPT of such parts.
+func (w *Writer) SetOperation() string {
 	for i := w.Intn(3); i >= -1; i-- {
 		open := w.once(3)
 		if open {
@@ -68,16 +68,16 @@ func (w *writer) setOperation() string {
 }
 
 // conditions writes a WHERE, or none, that is no error for any row.
-func (w *writer) conditions(column func() string) {
+func (w *Writer) conditions(column func() string) {
 	if w.once(2) {
 		w.say("WHERE")
 		for i := w.Intn(3); i >= 0; i-- {
 			switch w.Intn(6) {
 			case 0:
-				w.say(column(), "IN", "(", "SELECT", w.pick("id", "q.n", "DISTINCT n"), "FROM", w.pick(nastyTables[:9]...), "q", "WHERE",
+				w.say(column(), "IN", "(", "SELECT", w.pick("id", "q.n", "DISTINCT n"), "FROM", w.pick(tables[:9]...), "q", "WHERE",
 					"q.n", ">", "1", ")")
 			case 1:
-				w.say(w.pick("NOT", ""), "EXISTS", "(", "SELECT", w.pick("1", "*", ""), "FROM", w.pick(nastyTables[:9]...), "q", "WHERE",
+				w.say(w.pick("NOT", ""), "EXISTS", "(", "SELECT", w.pick("1", "*", ""), "FROM", w.pick(tables[:9]...), "q", "WHERE",
 					"q.id", "=", column(), ")")
 			case 2:
 				w.say(column(), "IS", w.pick("NULL", "NOT NULL"))
