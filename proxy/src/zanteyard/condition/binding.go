@@ -25,6 +25,9 @@ type Arguments struct {
 	// tables, each once. HasRows says that the result has rows at all.
 	Beside  map[string][]record.Key
 	HasRows bool
+	// Cut says that a LIMIT cut rows off, and Last is the key of the table's row in the last one of the result.
+	Cut  bool
+	Last record.Key
 	// Escapes says that standard_conforming_strings is off: a backslash in a constant has another meaning.
 	Escapes bool
 	// Temporary says that the connection has temporary objects: a type among them comes before the server's own.
@@ -91,6 +94,16 @@ func (f *Form) bindAll(b *binder) (part, error) {
 		its, err := b.standing(one)
 		if err != nil {
 			return part{}, err
+		}
+		parts = append(parts, its)
+	}
+	if b.with.Cut {
+		its, err := b.before()
+		if err != nil {
+			return part{}, err
+		}
+		if _, isAll := f.root.(all); isAll && len(f.beside) == 0 {
+			parts = nil
 		}
 		parts = append(parts, its)
 	}

@@ -34,6 +34,7 @@ type Form struct {
 	elsewhere map[int]int
 	root      expression
 	beside    []beside
+	sorted    []sorting // what ORDER BY has of the table's key, in front of all else
 }
 
 // Why a statement isn't followed, or one of its tables.
@@ -81,8 +82,16 @@ func Make(statement map[string]any, text string, c *catalog.Catalog) (*Form, err
 		return nil, err
 	}
 	f.Drops = f.drops(kind, body)
+	r := &reader{form: f}
+	f.sorted = sorts(body, f.Table, func(value any) *catalog.Column {
+		column, err := r.column(value)
+		if err != nil {
+			return nil
+		}
+		return column
+	})
 	var err error
-	if f.root, err = (&reader{form: f}).where(body["whereClause"]); err != nil {
+	if f.root, err = r.where(body["whereClause"]); err != nil {
 		return nil, err
 	}
 	return f, nil
@@ -93,6 +102,11 @@ func plainLook(body tree) error {
 	if body.has("withClause") { // a name of it may hide a table's
 		return withQueries
 	}
+	return skipsNothing(body)
+}
+
+// skipsNothing refuses SKIP LOCKED.
+func skipsNothing(body tree) error {
 	for _, lock := range body.list("lockingClause") {
 		if _, clause := open(lock); clause.text("waitPolicy") == "LockWaitSkip" {
 			return skipLocked

@@ -12,13 +12,17 @@ import "zanteyard/catalog"
 
 // Side is what a SELECT asks of one of its tables, or why that isn't followed.
 type Side struct {
-	Name string // by which the statement knows the table
+	Name string // by which the statement knows the table: in a subquery, behind the subquery's name and Within
 	Form *Form  // nil if it isn't followed
 	Why  error
 	// Whole means that beside each row of the others it asks for one row, by its whole key: no other one can satisfy it. An
 	// outer join may find none.
 	Whole    bool
 	Nullable bool // an outer join adds it
+	// Alone is what it asks of the table whatever the others have, if that is one row by its whole key, which Form.Key returns.
+	Alone *Form
+	// Decides means that no condition is left between the others, nor one that depends on no table.
+	Decides bool
 }
 
 // Outer is a column of another table's key, on whose value in a row of the result a form depends.
@@ -57,6 +61,7 @@ type joins struct {
 	scopes  []*scope
 	where   []any
 	merged  map[string]bool // columns of USING
+	order   tree            // what ORDER BY and the result's columns are in
 }
 
 // Joined reads what a SELECT over several tables asks of each of them, in the order of FROM. The error is a Refusal for
@@ -66,29 +71,39 @@ func Joined(statement map[string]any, text string, c *catalog.Catalog) ([]Side, 
 	if kind != "SelectStmt" {
 		return nil, notAStatement
 	}
-	if err := plainLook(body); err != nil {
+	if err := skipsNothing(body); err != nil {
 		return nil, err
 	}
-	j := &joins{catalog: c, merged: map[string]bool{}}
-	for _, entry := range body.list("fromClause") {
+	flat, limited, err := flatten(body, c)
+	if err != nil {
+		return nil, err
+	}
+	j := &joins{catalog: c, merged: map[string]bool{}, order: flat}
+	for _, entry := range flat.list("fromClause") {
 		if err := j.walk(entry); err != nil {
 			return nil, err
 		}
 	}
-	if len(j.scopes) < 2 {
+	if len(j.scopes) < 2 && limited == nil {
 		return nil, notOneTable
 	}
 	if body.has("lockingClause") { // what is locked is tried again, beside the same rows of the others
 		return nil, locksRows
 	}
-	j.where = append(j.where, conjuncts(body["whereClause"])...)
+	j.where = append(j.where, conjuncts(flat["whereClause"])...)
 	sides := make([]Side, len(j.scopes))
 	for i, one := range j.scopes {
 		sides[i].Name = one.name
-		if sides[i].Form, sides[i].Why = j.side(one, statement, text); sides[i].Why != nil {
+		if sides[i].Form, sides[i].Why = j.side(one, statement, text); sides[i].Why == nil && limited[one.name] {
+			sides[i].Why = aLimitWithin
+		}
+		if sides[i].Why != nil {
 			sides[i].Form = nil
 		}
 		sides[i].Whole, sides[i].Nullable = j.byWholeKey(one), one.nullable
+		if sides[i].Decides = j.decides(one); !limited[one.name] {
+			sides[i].Alone = j.alone(one, statement, text)
+		}
 	}
 	return sides, nil
 }
@@ -269,6 +284,16 @@ func (j *joins) side(of *scope, statement map[string]any, text string) (*Form, e
 	}
 	_, body := open(statement)
 	f.Drops = f.drops("SelectStmt", body)
+	if !of.nullable {
+		f.sorted = sorts(j.order, of.table, func(value any) *catalog.Column {
+			_, body := open(value)
+			its, column, err := j.resolve(body.names("fields"))
+			if err != nil || its != of {
+				return nil
+			}
+			return column
+		})
+	}
 	return f, nil
 }
 

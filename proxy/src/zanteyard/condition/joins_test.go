@@ -69,6 +69,21 @@ var joined = []struct{ from, why string }{
 	// Names with a schema, and with a database.
 	{"a JOIN b ON public.a.id = b.a_id WHERE public.b.z = 1", "a column of another table that isn't in its key|"},
 	{"a JOIN c ON c.id = a.id AND public.c.n = 1", "|"},
+	// Subqueries in FROM.
+	{"(SELECT * FROM a WHERE x = 1) AS s", ""}, {"(SELECT a.x, id FROM a) AS s WHERE s.x = 1", ""},
+	{"(SELECT id, x AS y, t AS x FROM a WHERE id > 1) AS s WHERE s.y = 1", ""}, {"(SELECT id, 1 AS x FROM a) AS s WHERE x = 1", "a function or subquery over other tables"},
+	{"(SELECT id, x + 1 AS y FROM a WHERE x > 0) AS s", ""}, {"(SELECT id, x + 1 AS y FROM a WHERE x > 0) AS s WHERE y > 1", "a function or subquery over other tables"},
+	{"(SELECT id, x AS y, id AS y FROM a) AS s", ""}, {"(SELECT id FROM a WHERE s IS NULL) AS s", "a function or subquery over other tables"},
+	{"(SELECT id FROM a WHERE x = 1) AS s JOIN b ON s.id = b.a_id WHERE z < 3", "a column of another table that isn't in its key|"},
+	{"(SELECT id, id AS a_id FROM a WHERE x = 1) AS s JOIN b USING (a_id) WHERE a_id > 0", "a column of another table that isn't in its key|"},
+	{"(SELECT id FROM a WHERE x = 1 LIMIT 9) AS s JOIN b ON s.id = b.a_id", "a column of another table that isn't in its key|"},
+	{"(SELECT id FROM a WHERE x = 1 LIMIT 1) AS s LEFT JOIN b ON s.id = b.a_id AND b.z = 1", "a LIMIT or OFFSET in a subquery in FROM|"},
+	{"a LEFT JOIN (SELECT * FROM b WHERE z = 1) AS s ON s.a_id = a.id", "|"},
+	{"a LEFT JOIN (SELECT * FROM (SELECT * FROM b WHERE z < 3) AS u WHERE z > 0) AS s ON s.a_id = a.id AND a_id < 2", "|"},
+	{"a LEFT JOIN (SELECT * FROM b WHERE z = 1) AS s ON s.a_id = a.id WHERE s.z = 1", "a condition on a table that an outer join may leave out|"},
+	{"a JOIN (SELECT * FROM b WHERE b.z IN (SELECT c.n FROM c)) AS s ON s.a_id = a.id", "a function or subquery over other tables|a function or subquery over other tables"},
+	{"(SELECT * FROM a WHERE random() < 2) AS s JOIN b ON b.a_id = s.id", "a function or subquery over other tables|a function or subquery over other tables"},
+	{"(SELECT a.id, b.z FROM a JOIN b ON b.id = a.id WHERE a.x = 1) AS s JOIN c ON c.id = s.id", "||"},
 }
 
 // TestJoined: beside the other tables' rows of a row of the result, what satisfies a table's condition is in the result,
@@ -252,9 +267,27 @@ func randomJoin(r *rand.Rand) string {
 		}
 		return one + pick([]string{" = ", " = ", " <= "}) + pick(columns[pick(those)])
 	}
-	from := names[0]
+	// Some are in subqueries, by which the statement knows the same columns.
+	as := func(name string) string {
+		its := " FROM " + name
+		if r.Intn(2) == 0 {
+			its += " WHERE " + test([]string{name})
+		}
+		switch r.Intn(6) {
+		case 0:
+			return "(SELECT *" + its + ") AS " + name
+		case 1:
+			all := append([]string{"1 AS one"}, columns[name]...)
+			r.Shuffle(len(all), func(i, k int) { all[i], all[k] = all[k], all[i] })
+			return "(SELECT " + strings.Join(all, ", ") + its + " ORDER BY 1) AS " + name
+		case 2:
+			return "(SELECT s.* FROM (SELECT *" + its + ") AS s) AS " + name
+		}
+		return name
+	}
+	from := as(names[0])
 	for i := 1; i < len(names); i++ {
-		from += pick([]string{" JOIN ", " JOIN ", " LEFT JOIN "}) + names[i] + " ON " + test(names[:i+1])
+		from += pick([]string{" JOIN ", " JOIN ", " LEFT JOIN "}) + as(names[i]) + " ON " + test(names[:i+1])
 		if r.Intn(2) == 0 {
 			from += " AND " + test(names[:i+1])
 		}
@@ -265,7 +298,9 @@ func randomJoin(r *rand.Rand) string {
 	return from
 }
 
+// keyText writes a table's key. Of one in a subquery, the subquery has the columns.
 func keyText(table, name string) string {
+	name, _, _ = strings.Cut(name, condition.Within)
 	if table == "c" {
 		return name + ".id::text || '/' || " + name + ".n::text"
 	}
@@ -275,22 +310,39 @@ func keyText(table, name string) string {
 func TestJoinsRefused(t *testing.T) {
 	_, all := open(t, "joins_refused", joinsSchema)
 	for text, want := range map[string]string{
-		"SELECT * FROM a":                                            "several tables, or none",
-		"SELECT * FROM a NATURAL JOIN b":                             "a join that isn't followed",
-		"SELECT * FROM a FULL JOIN b USING (id)":                     "a join that isn't followed",
-		"SELECT * FROM a RIGHT JOIN b USING (id)":                    "a join that isn't followed",
-		"SELECT * FROM a LEFT JOIN (b JOIN c USING (id)) USING (id)": "a join that isn't followed",
-		"SELECT * FROM a, (SELECT 1) s":                              "a join that isn't followed",
-		"SELECT * FROM a, LATERAL (SELECT a.x) s":                    "a join that isn't followed",
-		"SELECT * FROM (a JOIN b USING (id)) AS j, c":                "a join that isn't followed",
-		"SELECT * FROM a, secured":                                   "row security",
-		"SELECT * FROM a, viewed":                                    "unknown table",
-		"SELECT * FROM a, b FOR UPDATE":                              "FOR UPDATE of several tables",
-		"SELECT * FROM a, nowhere":                                   "unknown table",
-		"SELECT * FROM a, public.a":                                  "two tables with the same name",
-		"SELECT * FROM a, b FOR UPDATE SKIP LOCKED":                  "SKIP LOCKED",
-		"WITH b AS (SELECT 1) SELECT * FROM a, b":                    "WITH",
-		"DELETE FROM a USING b WHERE a.id = b.id":                    "neither SELECT, UPDATE nor DELETE",
+		"SELECT * FROM a":                                                "several tables, or none",
+		"SELECT * FROM a NATURAL JOIN b":                                 "a join that isn't followed",
+		"SELECT * FROM a FULL JOIN b USING (id)":                         "a join that isn't followed",
+		"SELECT * FROM a RIGHT JOIN b USING (id)":                        "a join that isn't followed",
+		"SELECT * FROM a LEFT JOIN (b JOIN c USING (id)) USING (id)":     "a join that isn't followed",
+		"SELECT * FROM a, (SELECT 1) s":                                  "a subquery in FROM that isn't followed",
+		"SELECT * FROM a, LATERAL (SELECT a.x) s":                        "a subquery in FROM that isn't followed",
+		"SELECT * FROM (SELECT * FROM a) s (y, z)":                       "a table alias that renames columns",
+		"SELECT * FROM (SELECT DISTINCT x FROM a) s":                     "a subquery in FROM that groups, merges or unites rows",
+		"SELECT * FROM (SELECT x FROM a GROUP BY x) s":                   "a subquery in FROM that groups, merges or unites rows",
+		"SELECT * FROM (SELECT count(*) FROM a) s":                       "a subquery in FROM that groups, merges or unites rows",
+		"SELECT * FROM (SELECT generate_series(1, x) FROM a) s":          "a subquery in FROM that groups, merges or unites rows",
+		"SELECT * FROM (SELECT id FROM a UNION ALL SELECT 1) s":          "a subquery in FROM that groups, merges or unites rows",
+		"SELECT * FROM (VALUES (1)) s (y), a":                            "a table alias that renames columns",
+		"SELECT * FROM (SELECT id FROM a FOR UPDATE) s":                  "FOR UPDATE of several tables",
+		"SELECT * FROM (SELECT id FROM a) s FOR UPDATE":                  "FOR UPDATE of several tables",
+		"SELECT * FROM (SELECT * FROM secured) s":                        "row security",
+		"SELECT * FROM (SELECT * FROM viewed) s":                         "unknown table",
+		"SELECT * FROM (SELECT * FROM a TABLESAMPLE system (1)) s":       "a join that isn't followed",
+		"SELECT * FROM a LEFT JOIN (SELECT b.id FROM b, c) s USING (id)": "a join that isn't followed",
+		"SELECT * FROM (WITH a AS (SELECT 1 AS id) SELECT id FROM a) s":  "WITH",
+		"WITH RECURSIVE s AS (SELECT 1 AS id) SELECT * FROM s":           "WITH",
+		"WITH s AS (DELETE FROM a RETURNING id) SELECT * FROM s":         "WITH",
+		"SELECT * FROM (a JOIN b USING (id)) AS j, c":                    "a join that isn't followed",
+		"SELECT * FROM a, secured":                                       "row security",
+		"SELECT * FROM a, viewed":                                        "unknown table",
+		"SELECT * FROM a, b FOR UPDATE":                                  "FOR UPDATE of several tables",
+		"SELECT * FROM a, nowhere":                                       "unknown table",
+		"SELECT * FROM a, public.a":                                      "two tables with the same name",
+		"SELECT * FROM a, b FOR UPDATE SKIP LOCKED":                      "SKIP LOCKED",
+		"WITH b AS (SELECT 1) SELECT * FROM a, b":                        "a subquery in FROM that isn't followed",
+		"WITH u AS (SELECT 1) SELECT * FROM a, b":                        "WITH",
+		"DELETE FROM a USING b WHERE a.id = b.id":                        "neither SELECT, UPDATE nor DELETE",
 	} {
 		stmt, err := parsed(t, text)
 		if err != nil {

@@ -21,6 +21,7 @@ const (
 	askOwnUnknown    = "after a write of the transaction's own that isn't known"
 	askContradicts   = "a row that each version it may have seen satisfies"
 	askGap           = "a row of which a change may be missing"
+	askBeside        = "beside a row that may have changed since it was read"
 	tooManyRegisters = "more rows than are kept of one condition"
 	tooManyChanges   = "changes from before their condition was known, more than are looked at"
 	tooManyPassed    = "more rows than are kept of one transaction's conditions"
@@ -174,6 +175,10 @@ func (c *core) resolveAsks(e *entry, to *resolution) bool {
 			continue
 		}
 		it := c.openAsk(e, i)
+		if !c.hadGiven(e, &it) {
+			to.loseAsk(i, askBeside)
+			continue
+		}
 		for n := len(q.registers) - 1; n >= 0; n-- { // the last ones may matter most
 			if to.passed >= mostPassed {
 				to.leftAlone(uint64(n) + 1)
@@ -387,6 +392,9 @@ func (c *core) deduceFrom(e *entry) {
 			continue
 		}
 		it := c.openAsk(e, i)
+		if !c.hadGiven(e, &it) {
+			continue
+		}
 		for _, at := range q.registers {
 			if v := at.first0(); v != nil && v.unsure && !it.found[at.as.on.id.key] && c.toldBefore(e, &it, at) {
 				c.sure(write{at, v})

@@ -21,6 +21,7 @@ const (
 	inTheLog     = "what is in the log is visible"
 	tooEarly     = "a transaction has ended before it has"
 	cutOff       = "a limit cut nothing off"
+	stillThere   = "a row that was read is still there"
 )
 
 // spoil makes what is reported of a transaction wrong.
@@ -158,7 +159,7 @@ func TestPassingOverMakesUpNoBrokenSnapshot(t *testing.T) {
 // TestWrongPassing: each joiner that is made wrong on purpose makes a violation up.
 func TestWrongPassing(t *testing.T) {
 	for _, wrong := range []string{oneRow, unknownHolds, tooNew, gapsIgnored, foundNothing, lastSnapshot, inTheLog, tooEarly,
-		cutOff} {
+		cutOff, stillThere} {
 		r := rand.New(rand.NewSource(7))
 		for n := 0; ; n++ {
 			if n == 4**stores {

@@ -140,11 +140,14 @@ func (s *store) report(t *storeTxn) record.Transaction {
 			it.Reads = append(it.Reads, s.read(one))
 		}
 	}
-	for _, one := range t.asks {
+	for _, one := range append(t.asks[:len(t.asks):len(t.asks)], t.voids...) {
 		if s.leaves(10) {
 			continue
 		}
 		ask := record.Ask{Condition: one.of, Found: one.found, From: one.from, Wrote: one.wrote, Writes: one.writes}
+		if one.beside != nil && len(one.found) == 0 && s.wrong != stillThere {
+			ask.Given = []record.Read{s.read(*one.beside)}
+		}
 		if s.leaves(10) {
 			ask.From = it.Began
 		}

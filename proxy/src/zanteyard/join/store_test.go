@@ -75,6 +75,7 @@ type storeTxn struct {
 	own      map[*storeKey]*storeVersion
 	reads    []storeRead
 	asks     []storeAsk
+	voids    []storeAsk // those that were asked beside a row that wasn't there: they have read nothing
 	wrote    bool
 	at       int // its place in done
 }
@@ -95,6 +96,7 @@ type storeAsk struct {
 	found  []record.Key
 	from   time.Time
 	wrote  bool
+	beside *storeRead // if it found nothing, it was asked beside a row that the transaction had read
 }
 
 // fakeCondition is x = c, y >= d, or both. A value below 0 is NULL, and one of 100 isn't known.
@@ -334,6 +336,18 @@ func (s *store) rowsOf(key *storeKey, t *storeTxn) int {
 // ask asks by a condition.
 func (s *store) ask(t *storeTxn, from time.Time) {
 	it := storeAsk{of: s.condition(), from: from, wrote: t.wrote}
+	if len(t.reads) > 0 && s.r.Intn(3) == 0 {
+		it.beside = &t.reads[s.r.Intn(len(t.reads))]
+		key := it.beside.key
+		is := key.at(key.seen(t.snapshot)).exists
+		if own := t.own[key]; own != nil {
+			is = own.exists
+		}
+		if !is {
+			t.voids = append(t.voids, it)
+			return
+		}
+	}
 	for _, key := range s.keys {
 		i, own := key.seen(t.snapshot), t.own[key]
 		it.saw, it.own = append(it.saw, i), append(it.own, -1)

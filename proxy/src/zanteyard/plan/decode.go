@@ -58,13 +58,14 @@ func (p *Plan) Each(values [][]byte, isBinary bool, take func(source int, its []
 	return true
 }
 
-// eachListed does the same with a list. If an outer join may have left some rows out, it isn't known whether it did.
+// eachListed does the same with a list. If an outer join may have left some of its rows out, it isn't known whether it did.
 func (s *Source) eachListed(source int, list []byte, take func(source int, its []record.Read, missing bool)) bool {
 	reads, err := s.appendList(nil, list)
-	if err == nil {
-		take(source, reads, s.Nullable)
+	if err != nil || s.Looked && !s.Nullable && len(reads) == 0 {
+		return false
 	}
-	return err == nil
+	take(source, reads, s.Nullable && (!s.Looked || len(reads) == 0))
+	return true
 }
 
 // AppendReads is Decode into existing memory.

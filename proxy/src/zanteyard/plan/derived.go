@@ -1,6 +1,10 @@
 package plan
 
-import "strconv"
+import (
+	"strconv"
+
+	"zanteyard/condition"
+)
 
 // A subquery in FROM returns rows of tables, as the statement itself does. Its hidden columns go in two places: it gets them
 // under names of their own, and the statement around it selects these. Where that ends in a star for the subquery's columns,
@@ -393,6 +397,10 @@ func (d *derived) passes(listed bool) (outside []*item) {
 func (it *item) outside(d *derived, passed map[string]string, named bool) *item {
 	its := *it
 	its.name, its.passed, its.named = d.alias.text("aliasname"), passed, named
+	if d.common == nil || d.common.passed == nil { // otherwise it is known from an earlier name of the same part of WITH
+		its.below = it.path
+	}
+	its.path = its.name + condition.Within + its.below
 	its.nullable = it.nullable || d.at.nullable
 	return &its
 }

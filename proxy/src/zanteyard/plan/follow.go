@@ -17,6 +17,9 @@ type follow struct {
 	joins   bool // it has several tables
 	limited bool
 	limit   askedPart
+	skips   bool // it has an OFFSET
+	offset  askedPart
+	sorted  bool      // if LIMIT cuts rows off, ORDER BY or something else in it says which
 	tables  *sync.Map // those of which rows' values are wanted, by record.Relation
 }
 
@@ -28,9 +31,15 @@ type side struct {
 	constants []int // the token of each of the form's constants: a minus, for a negative number
 	// Of several tables: which of the plan's sources it is, or -1, and the name by which the statement knows it. whole means
 	// that beside the others' rows it is asked for by its whole key.
-	source int
-	name   string
-	whole  bool
+	source   int
+	name     string
+	whole    bool
+	nullable bool
+	// alone is what asks for one row of it by its whole key, whatever the others have, with its constants. decides means that
+	// beside such rows of the others nothing but its own condition decides what is found.
+	alone          *condition.Form
+	aloneConstants []int
+	decides        bool
 }
 
 // Why what a SELECT asks for isn't followed.
@@ -39,6 +48,7 @@ const (
 	aSetFunction  = "a function that returns any number of rows"
 	writesToo     = "a function that may write"
 	unclearLimit  = "a LIMIT that isn't a number"
+	skipsRows     = "OFFSET"
 )
 
 // asksBy decides whether what a SELECT asks for is followed: then whatever isn't in its result was passed over.
@@ -79,22 +89,16 @@ func (m *maker) asksToWrite(p *Plan, name string, body node, others string) {
 
 func (m *maker) follow(p *Plan, body node) (*follow, string) {
 	switch {
-	case p.looksUp: // if it finds nothing, nothing shows of which table
-		return nil, aLookup
 	case p.MayWriteUnseen:
 		return nil, writesToo
 	case len(p.Unseen) > 0 && (len(p.Sources) == 0 || !isJoin(body)):
 		return nil, p.Unseen[0].Reason
-	case kindFound(body["fromClause"], "RangeSubselect"):
-		return nil, aSubqueryInFrom
 	case body.has("groupClause") && !p.Lists(): // otherwise each group lists its rows
 		return nil, "GROUP BY"
 	case body.has("distinctClause") && !p.Lists(): // otherwise each of its rows lists those that are equal
 		return nil, "DISTINCT"
 	case body.has("havingClause") && !p.Copied: // otherwise the first group lists those of all
 		return nil, "HAVING"
-	case body.has("limitOffset"):
-		return nil, "OFFSET"
 	case m.setReturning(map[string]any(body)):
 		return nil, aSetFunction
 	}
@@ -107,14 +111,14 @@ func (m *maker) follow(p *Plan, body node) (*follow, string) {
 	return m.followBy("SelectStmt", body)
 }
 
-// isJoin reports whether a SELECT has several tables.
+// isJoin reports whether a SELECT has several tables, or a subquery in FROM.
 func isJoin(body node) bool {
 	from := body.list("fromClause")
 	if len(from) != 1 {
 		return true
 	}
 	kind, _ := only(from[0])
-	return kind == "JoinExpr"
+	return kind == "JoinExpr" || condition.Nests(body)
 }
 
 func (m *maker) followBy(name string, body node) (*follow, string) {
@@ -122,8 +126,8 @@ func (m *maker) followBy(name string, body node) (*follow, string) {
 	if err != nil {
 		return nil, err.Error()
 	}
-	f := &follow{limited: body.has("limitCount")}
-	its, reason := m.side(form, f.limited)
+	f := &follow{limited: body.has("limitCount"), skips: body.has("limitOffset")}
+	its, reason := m.side(form, f.limited || f.skips)
 	if reason != "" {
 		return nil, reason
 	}
@@ -154,12 +158,22 @@ func (m *maker) side(form *condition.Form, limited bool) (its side, reason strin
 }
 
 func (m *maker) limits(f *follow, body node) (reason string) {
+	var ok bool
 	if f.limited {
-		var ok bool
 		if f.limit, ok = m.valuePart(0, body["limitCount"]); !ok || f.limit.negative {
 			return unclearLimit
 		}
 	}
+	if f.skips {
+		if f.offset, ok = m.valuePart(0, body["limitOffset"]); !ok || f.offset.negative {
+			return skipsRows
+		}
+	}
+	visit(map[string]any(body), func(kind string, its node) bool {
+		f.sorted = f.sorted || kind == "SortBy" || kind == "FuncCall" && its.has("over")
+		return !f.sorted
+	})
+	f.sorted = f.sorted || body.has("groupClause") || body.has("distinctClause") || body.text("limitOption") == "LIMIT_OPTION_WITH_TIES"
 	return ""
 }
 
@@ -169,7 +183,7 @@ func (m *maker) followJoin(p *Plan, body node) (*follow, string) {
 	if err != nil {
 		return nil, err.Error()
 	}
-	f, follows := &follow{joins: true, limited: body.has("limitCount")}, false
+	f, follows := &follow{joins: true, limited: body.has("limitCount"), skips: body.has("limitOffset")}, false
 	for _, one := range tables {
 		its := side{}
 		if one.Whole && one.Nullable && p.sourceOf(one.Name) < 0 && p.onlySkips() {
@@ -177,11 +191,18 @@ func (m *maker) followJoin(p *Plan, body node) (*follow, string) {
 		}
 		if one.Form == nil {
 			its.why = one.Why.Error()
-		} else if its, its.why = m.side(one.Form, f.limited); its.why == "" {
+		} else if its, its.why = m.side(one.Form, f.limited || f.skips); its.why == "" {
 			its.why = p.shows(one)
 		}
-		if its.name, its.whole, its.source = one.Name, one.Whole, p.sourceOf(one.Name); its.why != "" {
+		its.name, its.whole, its.nullable, its.source = one.Name, one.Whole, one.Nullable, p.sourceOf(one.Name)
+		if its.why != "" {
 			its.form, its.constants = nil, nil
+		}
+		its.decides = one.Decides
+		if one.Alone != nil && its.source >= 0 {
+			if alone, reason := m.side(one.Alone, true); reason == "" {
+				its.alone, its.aloneConstants = one.Alone, alone.constants
+			}
 		}
 		f.sides = append(f.sides, its)
 		follows = follows || its.form != nil || its.whole && its.source >= 0
@@ -242,6 +263,7 @@ type Question struct {
 	Source   int             // which of the plan's sources it is, if there are several tables
 	Why      string          // why it isn't followed
 	Partly   string          // or a part of it
+	Given    []record.Read   // rows of other tables beside which it was asked: they have to have been there
 }
 
 // Most returns how many rows a statement returns at most: if it returned as many, others may be missing of which its
@@ -251,15 +273,43 @@ func (p *Plan) Most(text string, tokens Tokens, with condition.Arguments) (uint6
 	if !f.limited {
 		return math.MaxUint64, nil
 	}
-	at := span{}
-	if f.limit.parameter == 0 {
-		at = tokens.follow[len(tokens.follow)-1]
+	behind := 1
+	if f.skips && f.offset.parameter == 0 {
+		behind++
 	}
-	if most, ok := f.limit.rows(text, at, with); ok {
+	if most, ok := f.limit.rows(text, tokens.last(f.limit, behind), with); ok {
 		return most, nil
 	}
 	return 0, condition.Refusal(unclearLimit)
 }
+
+// last returns the place of a constant that is the last one, or so many before the end.
+func (t Tokens) last(of askedPart, behind int) span {
+	if of.parameter > 0 {
+		return span{}
+	}
+	return t.follow[len(t.follow)-behind]
+}
+
+// Skips reports whether a statement leaves out rows that it found, by OFFSET, or may do so.
+func (p *Plan) Skips(text string, tokens Tokens, with condition.Arguments) bool {
+	f := p.follow
+	if !f.skips {
+		return false
+	}
+	if f.offset.parameter > 0 && f.offset.parameter <= len(with.Parameters) && with.Parameters[f.offset.parameter-1] == nil {
+		return false
+	}
+	n, ok := f.offset.rows(text, tokens.last(f.offset, 1), with)
+	return !ok || n > 0
+}
+
+// MayCut reports whether a statement has a LIMIT.
+func (p *Plan) MayCut() bool { return p.follow != nil && p.follow.limited }
+
+// Sorted reports whether something decides which rows a statement returns whose LIMIT cut others off. Otherwise it might have
+// returned any, and has asked for nothing else.
+func (p *Plan) Sorted() bool { return p.follow.sorted }
 
 // Asks returns what a statement asks its only table for, by the constants of its text and Bind's parameters.
 func (p *Plan) Asks(text string, tokens Tokens, with condition.Arguments) Question {
@@ -270,24 +320,39 @@ func (p *Plan) Asks(text string, tokens Tokens, with condition.Arguments) Questi
 type Found struct {
 	Keys    []record.Key
 	Missing bool
+	Last    record.Key // of the result's last row; "" if an outer join left it out
 }
 
 // AsksJoined returns what a statement asks several tables for, by its result. What it asks a table for by its whole key isn't
-// returned: no other row can satisfy it.
-func (p *Plan) AsksJoined(text string, tokens Tokens, with condition.Arguments, found []Found) []Question {
+// returned: no other row can satisfy it. before finds a row by its key among those that earlier statements have read.
+func (p *Plan) AsksJoined(text string, tokens Tokens, with condition.Arguments, found []Found, before Before) []Question {
 	with.Beside = map[string][]record.Key{}
 	for i := range found {
 		with.Beside[p.Sources[i].Name] = found[i].Keys
 		with.HasRows = with.HasRows || len(found[i].Keys) > 0
 	}
+	var given []*record.Read
+	if !with.HasRows {
+		given = p.given(text, tokens, with, before)
+	}
 	var all []Question
 	at := 0
 	for i := range p.follow.sides {
 		its := &p.follow.sides[i]
-		if !its.whole || its.source < 0 || found[its.source].Missing {
-			all = append(all, its.asks(text, tokens, at, with))
+		if with.Last = ""; its.source >= 0 {
+			with.Last = found[its.source].Last
 		}
-		at += len(its.constants)
+		if !its.whole || its.source < 0 || found[its.source].Missing {
+			by := with
+			keys, rows := p.follow.beside(i, given)
+			if len(rows) > 0 {
+				by.Beside, by.HasRows = keys, true
+			}
+			q := its.asks(text, tokens, at, by)
+			q.Given = rows
+			all = append(all, q)
+		}
+		at += its.count()
 	}
 	return all
 }
@@ -297,11 +362,7 @@ func (s *side) asks(text string, tokens Tokens, at int, with condition.Arguments
 	if s.form == nil {
 		return Question{Why: s.why}
 	}
-	with.Constants = make([]string, len(s.constants))
-	for i := range s.constants {
-		with.Constants[i] = text[tokens.follow[at+i].from:tokens.follow[at+i].to]
-	}
-	with.Left = tokens.left
+	with.Constants, with.Left = tokens.texts(text, at, len(s.constants)), tokens.left
 	q := Question{Identity: s.form.Table.Identity, Columns: s.columns, Source: s.source}
 	var err error
 	if q.By, err = s.form.Bind(with); err != nil {
@@ -344,7 +405,8 @@ func (a askedPart) rows(text string, at span, with condition.Arguments) (uint64,
 func (f *follow) places(text string, tokens []token) []span {
 	var all []span
 	for i := range f.sides {
-		for _, at := range f.sides[i].constants {
+		its := &f.sides[i]
+		for _, at := range append(its.constants[:len(its.constants):len(its.constants)], its.aloneConstants...) {
 			its := span{tokens[at].start, tokens[at].last}
 			if text[tokens[at].start] == '-' && at+1 < len(tokens) {
 				its.to = tokens[at+1].last
@@ -352,8 +414,13 @@ func (f *follow) places(text string, tokens []token) []span {
 			all = append(all, its)
 		}
 	}
-	if f.limited && f.limit.token >= 0 {
-		all = append(all, span{tokens[f.limit.token].start, tokens[f.limit.token].end})
+	for _, one := range []struct {
+		is bool
+		of askedPart
+	}{{f.limited, f.limit}, {f.skips, f.offset}} {
+		if one.is && one.of.token >= 0 {
+			all = append(all, span{tokens[one.of.token].start, tokens[one.of.token].end})
+		}
 	}
 	return all
 }

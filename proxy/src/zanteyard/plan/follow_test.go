@@ -71,7 +71,10 @@ func TestFollowed(t *testing.T) {
 		{"", "SELECT * FROM r WHERE id = 1 AND a = 2", "r WHERE id = 1 AND a = 2"},
 		{"", "SELECT * FROM r WHERE id = 1", ""}, // if there is no such row, it is reported as absent
 		{"", "SELECT * FROM r LIMIT 1 + 1", "a LIMIT that isn't a number"},
-		{"", "SELECT * FROM r OFFSET 1", "OFFSET"}, {"", "SELECT DISTINCT ON (a) id FROM r LIMIT 3", "DISTINCT"},
+		{"", "SELECT * FROM r OFFSET 1", "OFFSET"}, {"", "SELECT * FROM r WHERE a = 1 OFFSET 0", "r WHERE a = 1"},
+		{"SELECT * FROM r WHERE a = 1 LIMIT 8 OFFSET 9", "SELECT * FROM r WHERE a = 1 LIMIT 2 OFFSET 0", "r WHERE a = 1, most 2"},
+		{"", "SELECT * FROM r WHERE a = 1 OFFSET 0 LIMIT 3", "r WHERE a = 1, most 3"}, {"", "SELECT * FROM r LIMIT 3 OFFSET $1", "OFFSET"},
+		{"", "SELECT * FROM r LIMIT 3 OFFSET 1 - 1", "OFFSET"}, {"", "SELECT * FROM r WHERE a = 1 LIMIT $2 OFFSET $3", "r WHERE a = 1, most 12"}, {"", "SELECT DISTINCT ON (a) id FROM r LIMIT 3", "DISTINCT"},
 		{"", "SELECT a, count(*) FROM r GROUP BY a ORDER BY a LIMIT 3", "r, most 3"},
 		{"", "SELECT a FROM r GROUP BY a HAVING count(*) > 1 ORDER BY a", "HAVING"}, {"", "SELECT a FROM r GROUP BY id LIMIT 3", "GROUP BY"}, {"", "SELECT generate_series(1, a) FROM r LIMIT 3", aSetFunction},
 		{"", "SELECT count(*) FROM r", "r"}, {"", "SELECT sum(a) FROM r WHERE a > 5", "r WHERE a > 5"}, {"", "SELECT DISTINCT a FROM r", "r"},
@@ -92,7 +95,7 @@ func TestFollowed(t *testing.T) {
 		p, tokens := cache.Plan(x.text)
 		got := p.NotFollowed
 		if p.Follows() {
-			q, its := asked(p, x.text, tokens, condition.Arguments{Parameters: [][]byte{[]byte("11"), []byte("12")}})
+			q, its := asked(p, x.text, tokens, condition.Arguments{Parameters: [][]byte{[]byte("11"), []byte("12"), nil}})
 			if got = its; q.Why == "" && (q.Columns == 0 || q.Columns != table.ColumnsIdentity || q.Identity != table.Identity) {
 				t.Errorf("%s: %+v", x.text, q)
 			}
@@ -116,6 +119,9 @@ func TestFollowed(t *testing.T) {
 // asked returns what a statement asks its only table for, also in words.
 func asked(p *Plan, text string, tokens Tokens, with condition.Arguments) (Question, string) {
 	most, err := p.Most(text, tokens, with)
+	if err == nil && p.Skips(text, tokens, with) {
+		err = condition.Refusal(skipsRows)
+	}
 	if err != nil {
 		return Question{Why: err.Error()}, err.Error()
 	}
@@ -159,8 +165,19 @@ func TestFollowsJoins(t *testing.T) {
 		{"SELECT i.n FROM issue i JOIN secret s ON s.id = i.project_id", "row security"},
 		{"SELECT i.n FROM issue i JOIN keyless k ON k.id = i.project_id", notKey},
 		{"SELECT i.n FROM issue i NATURAL JOIN project p", "a join that isn't followed"},
-		{"SELECT i.n FROM issue i, (SELECT 1) AS s", "a subquery in FROM"},
+		{"SELECT i.n FROM issue i, (SELECT 1) AS s", "a subquery in FROM that isn't followed"},
 		{"SELECT DISTINCT i.n " + issues, "issue WHERE project_id IN (7, 8): 1,2"}, {"SELECT i.n " + issues + "OFFSET 3", "OFFSET"},
+		{"SELECT s.n FROM (SELECT * FROM issue WHERE n > 5) AS s", "issue WHERE n > 5: 1,2"},
+		{"SELECT * FROM (SELECT * FROM issue WHERE n > 5) AS s", "issue WHERE n > 5: 1,2"},
+		{"SELECT s.n, p.open FROM (SELECT n, project_id AS of FROM issue WHERE n > 5) AS s JOIN project p ON p.id = s.of AND p.open",
+			"issue WHERE n > 5 AND project_id IN (7, 8): 1,2"},
+		{"WITH s AS (SELECT * FROM issue WHERE n > 5) SELECT s.n FROM s WHERE s.project_id = 3", "issue WHERE n > 5 AND project_id = 3: 1,2"},
+		{"SELECT p.open, s.n FROM project p LEFT JOIN (SELECT * FROM issue WHERE n > 5) AS s ON s.project_id = p.id",
+			"project: 7,8; issue WHERE n > 5 AND project_id IN (7, 8): 1,2"},
+		{"SELECT s.n FROM (SELECT * FROM (SELECT * FROM issue WHERE n > 5) AS t WHERE n < 9) AS s", "issue WHERE n > 5 AND n < 9: 1,2"},
+		{"SELECT s.n FROM (SELECT * FROM issue WHERE n > 5 LIMIT 3) AS s", "a LIMIT or OFFSET in a subquery in FROM"},
+		{"SELECT s.n FROM (SELECT n + 1 AS n FROM issue) AS s WHERE s.n > 5", "a function or subquery over other tables"},
+		{"SELECT count(*) FROM (SELECT * FROM issue WHERE n > 5) AS s", "issue WHERE n > 5: 1,2"},
 	} {
 		p, tokens := cache.Plan(x.text)
 		got := p.NotFollowed
@@ -173,20 +190,29 @@ func TestFollowsJoins(t *testing.T) {
 	}
 }
 
+// noneBefore: no earlier statement has read anything.
+func noneBefore(record.Relation, record.Identity, record.Key) (record.Read, bool) {
+	return record.Read{}, false
+}
+
 // joinAsked says what a join asks each of its tables for, if some rows are in its result.
 func joinAsked(t *testing.T, p *Plan, text string, tokens Tokens) string {
 	t.Helper()
 	if !p.Joins() {
 		t.Fatalf("%s: one table", text)
 	}
-	rows := map[string][]record.Key{"i": {"1", "2"}, "p": {"7", "8"}, "a": {"9"}, "s": {"5"}}
+	rows := map[string][]record.Key{"i": {"1", "2"}, "issue": {"1", "2"}, "p": {"7", "8"}, "a": {"9"}, "s": {"5"}}
 	with := condition.Arguments{Parameters: [][]byte{[]byte("11"), []byte("12")}}
+	if p.Skips(text, tokens, with) {
+		return skipsRows
+	}
 	found := make([]Found, len(p.Sources))
 	for i := range found {
-		found[i].Keys = rows[p.Sources[i].Name]
+		name := p.Sources[i].Name
+		found[i].Keys = rows[name[strings.LastIndex(name, condition.Within)+1:]]
 	}
 	var all []string
-	for _, q := range p.AsksJoined(text, tokens, with, found) {
+	for _, q := range p.AsksJoined(text, tokens, with, found, noneBefore) {
 		if q.Why != "" {
 			all = append(all, "not: "+q.Why)
 			continue

@@ -32,13 +32,16 @@ type fromClause struct {
 	depth    int  // in how many subqueries it is
 	// outermost: it is the statement's own.
 	outermost bool
-	reached   bool // names may mean what is around a subquery
+	reached   bool   // names may mean what is around a subquery
+	prefix    string // the names of the subqueries that it is in, if a star has their columns
 }
 
 // item is a table of a FROM clause.
 type item struct {
 	table    *catalog.Table
 	name     string // by which the statement knows it
+	path     string // the same behind the names of the subqueries in FROM that it is in, as condition.Side has it
+	below    string // the same without the first of them
 	written  string // the table's name as in the statement, quoted
 	nullable bool
 	only     bool
@@ -174,6 +177,7 @@ func (m *maker) newItem(r node, t *catalog.Table, at place, sampled bool) *item 
 	if name := r.node("alias").text("aliasname"); name != "" {
 		it.name = name
 	}
+	it.path = it.name
 	return it
 }
 
@@ -239,7 +243,7 @@ func (it *item) source() Source {
 	}
 	source := Source{
 		Relation: record.Relation(it.table.OID), Identity: it.table.Identity, Converts: it.converts, Types: types,
-		Nullable: it.nullable, Listed: it.listed || it.looked, Name: it.name,
+		Nullable: it.nullable, Listed: it.listed || it.looked, Looked: it.looked, Name: it.path,
 	}
 	if it.listed || it.typed || it.looked {
 		source.RowType = it.table.RowType

@@ -11,9 +11,9 @@ import (
 // server may choose another plan, which has rows in another order. But if the index has the table's key, too, the row can be
 // looked up by it, for each row of the result: that is one more query among the result's columns, whose cost is the same for
 // all plans of the statement. So the server chooses the same one.
-
-// aLookup is why what such a statement passed over isn't followed.
-const aLookup = "rows that are looked up by their key"
+//
+// A snapshot may show two rows with one key: one that somebody has deleted since, and one that the transaction itself has
+// inserted. Then it isn't known which of them is in the result, and neither is told.
 
 // looksUp reports whether a table's rows can be looked up by its key, with the columns that the statement asks of it.
 func (f *fromClause) looksUp(it *item, columns map[int16]bool) bool {
@@ -44,7 +44,8 @@ func isLookedUpBy(column catalog.Column) bool {
 var equalities = []string{"int2eq", "int4eq", "int8eq", "uuid_eq", "date_eq", "timestamp_eq", "timestamptz_eq", "oideq", "texteq",
 	"bpchareq", "nameeq", "booleq", "enum_eq"}
 
-// looksUp adds a query for the row of a table that has the key of the one in the result.
+// looksUp adds a query for the row of a table that has the key of the one in the result, and a column that has nothing but the
+// type of the table's rows: the description of a result shows it, of one without rows, too.
 func (h *hiding) looksUp(it *item) {
 	var names, conditions []string
 	row := []string{alias + ".xmin", alias + ".tableoid"}
@@ -55,8 +56,11 @@ func (h *hiding) looksUp(it *item) {
 		conditions = append(conditions, alias+"."+name+" OPERATOR(pg_catalog.=) "+quote(it.name)+"."+name)
 	}
 	h.proves(it.written, names)
-	h.value("CASE WHEN " + belowSerializable + " THEN (SELECT pg_catalog.record_send(ROW(" + strings.Join(append(row, noRow(alias)), ", ") +
-		")) FROM " + it.written + " AS " + alias + " WHERE " + strings.Join(conditions, " AND ") + ") ELSE ''::pg_catalog.bytea END")
+	found := "pg_catalog.string_agg(pg_catalog.record_send(ROW(" + strings.Join(append(row, noRow(alias)), ", ") + ")), '')"
+	h.value("CASE WHEN " + belowSerializable + " THEN (SELECT CASE WHEN " + countOfRows + " OPERATOR(pg_catalog.<=) 1 THEN " + found +
+		" ELSE ''::pg_catalog.bytea END FROM " + it.written + " AS " + alias + " WHERE " + strings.Join(conditions, " AND ") +
+		") ELSE ''::pg_catalog.bytea END")
+	h.value(noRow(it.name))
 }
 
 // belowSerializable is a condition of what reads more than the statement itself does: another row, or the same one by another
@@ -65,6 +69,9 @@ const belowSerializable = "pg_catalog.current_setting('transaction_isolation') O
 
 // ReadsMore reports whether a statement's hidden columns read more than it does: then they are empty at serializable.
 func (p *Plan) ReadsMore() bool { return p.Copied || p.looksUp }
+
+// LooksUp reports whether rows of the result are looked up by their key.
+func (p *Plan) LooksUp() bool { return p.looksUp }
 
 // looked reports whether the rows of a result's row were looked up.
 func (p *Plan) looked(values [][]byte, isBinary bool) bool {

@@ -22,7 +22,7 @@ func (p *Plan) Described() bool {
 		return true
 	}
 	for i := range p.Sources {
-		if p.Sources[i].RowType == 0 {
+		if p.Sources[i].RowType == 0 || p.Sources[i].Looked {
 			return true
 		}
 	}
@@ -53,7 +53,8 @@ func (p *Plan) IsOver(hidden []wire.Column) bool {
 	}
 	for i := range p.Sources {
 		source := &p.Sources[i]
-		if source.RowType == 0 && !isFrom(hidden[at+1], uint32(source.Relation), tableoidNumber) {
+		if source.RowType == 0 && !isFrom(hidden[at+1], uint32(source.Relation), tableoidNumber) ||
+			source.Looked && hidden[at+1].Type != source.RowType {
 			return false
 		}
 		at += source.Hidden()

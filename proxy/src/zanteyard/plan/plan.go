@@ -65,11 +65,13 @@ type Source struct {
 	Identity record.Identity // of the table's key
 	Converts bool            // texts come in the server's encoding, as bytea
 	Types    []uint32        // types of the key's columns in the table, as package catalog resolves them
-	Name     string          // by which the statement knows the table
+	Name     string          // by which the statement knows the table, as condition.Side has it
 	// Nullable means that an outer join may leave the whole group NULL: then no row was read.
 	Nullable bool
 	// Listed means that the group is one column: a list of the table's rows that an aggregate was made of.
 	Listed bool
+	// Looked means that it is a list of the one row that was looked up, and a column of the type of the table's rows.
+	Looked bool
 	// RowType is the type of the relation's rows, which a list has for each of its rows, and else the group's last column; 0
 	// if they don't have it, since the result's description shows the relation (IsOver).
 	RowType uint32
@@ -78,6 +80,8 @@ type Source struct {
 // Hidden returns the number of columns in the group.
 func (s Source) Hidden() int {
 	switch {
+	case s.Looked:
+		return 2
 	case s.Listed:
 		return 1
 	case s.RowType != 0:
@@ -273,7 +277,9 @@ func (p *Plan) HiddenTypes() []uint32 {
 	}
 	for _, s := range p.Sources {
 		if s.Listed {
-			types = append(types, bytea)
+			if types = append(types, bytea); s.Looked {
+				types = append(types, s.RowType)
+			}
 			continue
 		}
 		types = append(types, xid, oid)

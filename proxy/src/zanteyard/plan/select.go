@@ -1,6 +1,9 @@
 package plan
 
-import "zanteyard/catalog"
+import (
+	"zanteyard/catalog"
+	"zanteyard/condition"
+)
 
 // selects adds the hidden columns of each table whose rows a SELECT returns, one for each row of its result. If these can't
 // show all that it has read, since it merges rows, it is asked for them once more.
@@ -111,6 +114,7 @@ func (f *fromClause) result(h *hiding, body node, found []*item, word int) {
 		}
 		if d.carried {
 			d.inner.isNullable(d.at.nullable)
+			d.inner.prefix = f.prefix + d.alias.text("aliasname") + condition.Within
 			d.inner.result(d.inner.hiding(), d.query, d.inner.found, d.inner.word)
 		} else {
 			found = append(found[:len(found):len(found)], d.passes(f.lists)...)
@@ -128,7 +132,9 @@ func (f *fromClause) result(h *hiding, body node, found []*item, word int) {
 		default:
 			h.reads(source)
 		}
-		p.Sources = append(p.Sources, source.source())
+		its := source.source()
+		its.Name = f.prefix + its.Name
+		p.Sources = append(p.Sources, its)
 		p.relations = append(p.relations, source.relation())
 	}
 	f.inserts(body, h.text(), word)

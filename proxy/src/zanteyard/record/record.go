@@ -81,6 +81,7 @@ type Ask struct {
 	Wrote     bool      // the transaction may have written by then
 	Writes    bool      // it is an UPDATE or DELETE: it wrote each row that it got
 	Why       string    // why it isn't followed: then the rest is empty. "" if it is
+	Given     []Read    // rows of other tables that earlier statements got, and that it found: if these were still there
 }
 
 // Statement is one statement of a transaction, for readers of an explanation.

@@ -15,6 +15,7 @@ const (
 	notRewritten = "its rows aren't seen"
 	aCursor      = "a cursor, or SQL's PREPARE"
 	cutOff       = "LIMIT"
+	skipsRows    = "OFFSET"
 	tooManyFound = "more rows of one SELECT than are kept"
 	tooManyAsks  = "more conditions of one transaction than are kept"
 	unclearRow   = "a row whose key isn't known"
@@ -41,9 +42,9 @@ type asking struct {
 	why   string // why it isn't followed
 	// writes: it wrote the rows that it got, which the log tells.
 	writes bool
-	// later makes the question of an UPDATE or DELETE by a whole key, nil if it is made. Nearly all of these change their
-	// row, and have asked for nothing then.
-	later  func() plan.Question
+	// later makes the question, nil if it is made: of a SELECT with LIMIT, which depends on the last row that it returned, and
+	// of an UPDATE or DELETE by a whole key. Nearly all of these change their row, and have asked for nothing then.
+	later  func(last record.Key, cut bool) plan.Question
 	done   bool
 	place  int32 // among the transaction's, counted from 1, once it is done
 	joined *joined
@@ -72,14 +73,19 @@ func (s *Session) asksBy(st *statement, with condition.Arguments) *asking {
 	switch it.most = most; {
 	case err != nil:
 		it.why = err.Error()
+	case p.Skips(st.text, st.tokens, with):
+		it.why = skipsRows
 	case p.Joins():
 		with = kept(with)
 		it.joined = &joined{plan: p, text: st.text, tokens: st.tokens, with: with, found: make([]plan.Found, len(p.Sources)),
 			known: make([]map[record.Key]bool, len(p.Sources))}
-	case it.writes && p.ByKey:
+	case it.writes && p.ByKey, p.MayCut():
 		with = kept(with)
 		text, tokens := st.text, st.tokens
-		it.later = func() plan.Question { return p.Asks(text, tokens, with) }
+		it.later = func(last record.Key, cut bool) plan.Question {
+			with.Cut, with.Last = cut, last
+			return p.Asks(text, tokens, with)
+		}
 	default:
 		it.makes(p.Asks(st.text, st.tokens, with))
 	}
@@ -121,7 +127,9 @@ func (s *Session) gotJoined(a *asking, values [][]byte, isBinary, failed, isWhol
 	otherEncoding := !j.plan.Converts() && s.options.Plans != nil && s.converts()
 	ok := isWhole && j.plan.Each(values, isBinary, func(source int, its []record.Read, missing bool) {
 		found := &j.found[source]
-		found.Missing = found.Missing || missing
+		if found.Missing, found.Last = found.Missing || missing, ""; len(its) == 1 {
+			found.Last = its[0].Key
+		}
 		if j.known[source] == nil {
 			j.known[source] = map[record.Key]bool{}
 		}
@@ -217,8 +225,18 @@ func (s *Session) askedBy(p *plan.Plan, e *expectation, noted *record.Statement,
 	if p.ByKey && (changed || a != nil && a.why == "" && a.rows > 0 && !p.Lists()) { // no other row can satisfy it
 		return
 	}
-	if a != nil && a.later != nil {
-		a.makes(a.later())
+	cut := a != nil && a.rows >= a.most && !a.writes
+	if cut && (a.most == 0 || a.why == "" && !p.Sorted() && !p.Lists()) { // it might have returned any other rows as well
+		return
+	}
+	if a != nil && a.later != nil && a.why == "" {
+		last := record.Key("")
+		if n := len(a.found); n > 0 {
+			last = a.found[n-1]
+		}
+		a.makes(a.later(last, cut))
+	}
+	if a != nil {
 		a.later = nil
 	}
 	why := p.NotFollowed
@@ -234,7 +252,7 @@ func (s *Session) askedBy(p *plan.Plan, e *expectation, noted *record.Statement,
 		why = notRewritten
 	case a.why != "":
 		why = a.why
-	case a.rows >= a.most && !a.writes:
+	case cut && p.Lists():
 		why = cutOff
 	case p.Lists() && !a.shows && !a.foundAny(): // otherwise rows that it lists show that it is made of its plan's tables
 		why = ofNothing
@@ -260,7 +278,8 @@ func (s *Session) askedBy(p *plan.Plan, e *expectation, noted *record.Statement,
 		t.ask(a, a.Question, a.found, wrote)
 	} else {
 		j := a.joined
-		questions := j.plan.AsksJoined(j.text, j.tokens, j.with, j.found)
+		j.with.Cut = cut
+		questions := j.plan.AsksJoined(j.text, j.tokens, j.with, j.found, t.hasRead)
 		if len(questions) == 0 && a.rows == 0 { // each table by its whole key, of which some row isn't there
 			t.Asks = append(t.Asks, record.Ask{Why: joinOfNone})
 		}
@@ -291,13 +310,23 @@ func (t *transaction) ask(a *asking, of plan.Question, found []record.Key, wrote
 		return
 	}
 	t.Asks = append(t.Asks, record.Ask{Condition: of.By, Identity: of.Identity, Columns: of.Columns, Found: found, From: a.from,
-		Wrote: wrote, Writes: a.writes})
+		Wrote: wrote, Writes: a.writes, Given: of.Given})
 	if a.place == 0 {
 		a.place = int32(len(t.Asks))
 	}
 	if of.Partly != "" && len(t.Asks) <= mostConditions {
 		t.Asks = append(t.Asks, record.Ask{Why: of.Partly})
 	}
+}
+
+// hasRead finds a row among those that were read.
+func (t *transaction) hasRead(relation record.Relation, identity record.Identity, key record.Key) (record.Read, bool) {
+	for i := len(t.Reads) - 1; i >= 0; i-- { // the last version
+		if one := &t.Reads[i]; one.Relation == relation && one.Key == key && one.Identity == identity {
+			return *one, true
+		}
+	}
+	return record.Read{}, false
 }
 
 // mayHaveWritten reports whether a transaction may have written anything by now.

@@ -37,6 +37,8 @@ func throughAsking(t *testing.T) *proxied {
 	})
 }
 
+const besideNone = "a join of no rows, beside which others could stand"
+
 func shownAsk(one record.Ask) string {
 	if one.Why != "" {
 		return "not: " + one.Why
@@ -49,6 +51,9 @@ func shownAsk(one record.Ask) string {
 	text := one.Condition.String() + ": " + strings.Join(found, ",")
 	if one.Wrote {
 		text += " wrote"
+	}
+	for _, its := range one.Given {
+		text += " beside " + string(its.Key)
 	}
 	return text
 }
@@ -80,7 +85,37 @@ func TestAsks(t *testing.T) {
 			want: "t WHERE v < -5: ", shows: true},
 		{name: "a partitioned table", texts: []string{"SELECT v FROM part WHERE v = 6"}, want: "part WHERE v = 6: 120"},
 		{name: "limits", texts: []string{"BEGIN", "SELECT v FROM t WHERE v < 40 LIMIT 2", "SELECT v FROM t WHERE v < 20 LIMIT 2", "COMMIT"},
-			want: "not: LIMIT; t WHERE v < 20: 1"},
+			want: "t WHERE v < 20: 1"}, // the first one might have returned any two
+		{name: "limits by the key", texts: []string{"BEGIN", "SELECT v FROM t WHERE v < 40 ORDER BY id LIMIT 2", "SELECT v FROM t WHERE v < 40 ORDER BY t.id DESC LIMIT 1",
+			"SELECT a, b FROM u WHERE v > 2 ORDER BY a, v LIMIT 2 OFFSET 0", "SELECT v FROM t WHERE v < 20 ORDER BY id LIMIT 2", "COMMIT"},
+			want: "t WHERE v < 40 AND id < 2: 1,2; t WHERE v < 40 AND id > 3: 3; u WHERE v > 2 AND a < 0: 0/b4,0/b8; t WHERE v < 20: 1"},
+		{name: "limits by others", texts: []string{"BEGIN", "SELECT v FROM t WHERE v < 40 ORDER BY v, id LIMIT 2", "SELECT v AS id FROM t ORDER BY id LIMIT 2",
+			"SELECT v FROM t WHERE v < 40 ORDER BY id LIMIT 1 FOR UPDATE", "SELECT b FROM u ORDER BY b LIMIT 1", "SELECT v FROM t ORDER BY id LIMIT 2 OFFSET 1",
+			"SELECT v, row_number() OVER () FROM t LIMIT 1", "COMMIT"}, want: "not: LIMIT; not: LIMIT; not: LIMIT; not: LIMIT; not: OFFSET; not: LIMIT"},
+		{name: "a limit of none", texts: []string{"BEGIN", "SELECT v FROM t WHERE v < 40 ORDER BY v LIMIT 0", "SELECT v FROM t WHERE v < 20", "COMMIT"}, want: "t WHERE v < 20: 1"},
+		{name: "limits of a join", texts: []string{"BEGIN", "SELECT t.v, u.v FROM t JOIN u ON u.a = t.id WHERE t.v < 30 AND u.v > 2 LIMIT 2",
+			"SELECT t.v, u.v FROM t JOIN u ON u.a = t.id WHERE t.v < 30 AND u.v > 2 ORDER BY u.a DESC, u.v LIMIT 3",
+			"SELECT t.v, u.v FROM t LEFT JOIN u ON u.a = t.id WHERE t.v < 30 ORDER BY t.id LIMIT 5", "COMMIT"},
+			want: "u WHERE v > 2 AND a IN (1, 2) AND a > 1: 1/b5,2/b10,2/b6; t WHERE v < 30 AND id < 2: 1,2; not: LIMIT"},
+		{name: "a subquery in FROM", texts: []string{"SELECT s.v FROM (SELECT * FROM t WHERE v < 30) AS s WHERE s.id > 1"}, want: "t WHERE v < 30 AND id > 1: 2"},
+		{name: "a part of WITH", texts: []string{"WITH s AS (SELECT id, v AS y FROM t WHERE v < 30) SELECT one.y, s.id FROM s AS one JOIN s ON s.id = one.id"},
+			want: ""}, // by whole keys
+		{name: "a subquery that finds none", texts: []string{"SELECT * FROM (SELECT id, v FROM t WHERE v < 0) AS s"}, want: "t WHERE v < 0: "},
+		{name: "beside a row", texts: []string{"BEGIN", "SELECT v FROM t WHERE id = 1",
+			"SELECT u.v FROM (SELECT id FROM t WHERE id = 1) AS s JOIN u ON u.a = s.id AND u.v > 100", "COMMIT"}, want: "u WHERE v > 100 AND a IN (1):  beside 1"},
+		{name: "beside one that nobody has read", texts: []string{"BEGIN", "SELECT v FROM t WHERE id = 2",
+			"SELECT u.v FROM (SELECT id FROM t WHERE id = 1) AS s JOIN u ON u.a = s.id AND u.v > 100",
+			"SELECT u.v FROM (SELECT id FROM t WHERE id = 2 AND v < 5) AS s JOIN u ON u.a = s.id AND u.v > 100",
+			"SELECT u.v FROM (SELECT id FROM t WHERE id = 2) AS s JOIN u ON u.a = s.id AND u.v > 100 AND 1 = 2",
+			"SELECT u.v FROM (SELECT id FROM t WHERE id = 2 LIMIT 1) AS s JOIN u ON u.a = s.id AND u.v > 100", "COMMIT"},
+			want: "not: " + besideNone + "; not: " + besideNone + "; not: " + besideNone + "; not: " + besideNone},
+		{name: "beside one by a parameter", parsed: []pgproto3.FrontendMessage{
+			&pgproto3.Parse{Query: "BEGIN"}, &pgproto3.Bind{}, &pgproto3.Execute{},
+			&pgproto3.Parse{Query: "SELECT v FROM t WHERE id = 1"}, &pgproto3.Bind{}, &pgproto3.Execute{},
+			&pgproto3.Parse{Query: "SELECT u.v FROM t JOIN u ON u.a = t.id AND u.v > $1 WHERE t.id = $2"},
+			&pgproto3.Bind{Parameters: [][]byte{[]byte("100"), []byte("1")}}, &pgproto3.Execute{},
+			&pgproto3.Parse{Query: "COMMIT"}, &pgproto3.Bind{}, &pgproto3.Execute{}, &pgproto3.Sync{}},
+			want: "u WHERE v > 100 AND a IN (1):  beside 1"},
 		{name: "after a write", texts: []string{"BEGIN", "SELECT v FROM t WHERE v < 30", "UPDATE t SET w = 'x' WHERE id = 20",
 			"SELECT v FROM t WHERE v < 20", "COMMIT"}, want: "t WHERE v < 30: 1,2; t WHERE v < 20: 1 wrote"},
 		{name: "a write that is undone", texts: []string{"BEGIN", "SELECT v FROM t WHERE v < 30", "SAVEPOINT a",

@@ -29,6 +29,9 @@ func (s *Session) hidden(e *expectation, values [][]byte) {
 	reads = s.comparable(p, reads)
 	counts := p.Kind == plan.Select && len(p.Unseen) == 0
 	isWhole := s.lists(e, values)
+	if e.asking != nil && !isWhole && e.asking.why == "" && p.ReadsMore() {
+		e.asking.why = s.whyBeyond(p)
+	}
 	switch {
 	case e.asking == nil:
 	case e.asking.joined != nil:

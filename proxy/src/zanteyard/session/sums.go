@@ -15,6 +15,7 @@ const (
 	noVersion  = "a row without a version, as of an outer join"
 	anyCursor  = "a cursor that isn't known"
 	// tooManyRows is why an aggregate isn't seen whose list doesn't have all of its rows.
+	twoRows     = "two rows with one key, of which a transaction sees a deleted one and its own"
 	tooManyRows = "an aggregate of too many rows, of very long keys, or that took too long"
 	aFunction   = "what a function reads"
 	// atSerializable is why a statement isn't seen whose hidden columns would read, and so lock, more than it does.
@@ -29,6 +30,9 @@ func (s *Session) whyBeyond(p *plan.Plan) string {
 	}
 	if p.ReadsMore() && level == record.Serializable {
 		return atSerializable
+	}
+	if p.LooksUp() {
+		return twoRows
 	}
 	return tooManyRows
 }

@@ -199,10 +199,40 @@ func (c *phantomClient) select_(t *phantomTxn, own map[int]bool) error {
 		which, it.locks, it.by = len(texts)-1, false, it.by.inJoin()
 	}
 	text := texts[which]
+	var shape *phantomShape
+	if c.r.Intn(3) == 0 {
+		its := someShape(c.r, c.table)
+		shape, text, it.locks = &its, its.text, false
+		if its.reads != "" && c.r.Intn(4) > 0 {
+			if _, err := c.ask(its.reads); err != nil {
+				return err
+			}
+			if rows, err = c.ask("SELECT pg_current_snapshot()"); err != nil {
+				return err
+			}
+			it.before = snapOf(rows[0][0])
+		}
+	}
 	if rows, err = c.ask(text); err != nil {
 		return err
 	}
+	if shape != nil {
+		it.by, it.alone = shape.asked(rows)
+	}
+	if len(rows) == 0 || it.locks {
+		its, err := c.ask("SELECT pg_current_snapshot()")
+		if err != nil {
+			return err
+		}
+		it.after = snapOf(its[0][0])
+	}
 	for _, row := range rows {
+		if it.before = snapOf(row[2]); !it.locks {
+			it.after = it.before
+		}
+		if row[0] == "" { // an outer join left it out
+			continue
+		}
 		key, _ := strconv.Atoi(row[0])
 		switch before, is := it.found[key]; {
 		case !is:
@@ -212,13 +242,6 @@ func (c *phantomClient) select_(t *phantomTxn, own map[int]bool) error {
 		default:
 			it.also[key] = append(it.also[key], row[1])
 		}
-		it.before, it.after = snapOf(row[2]), snapOf(row[2])
-	}
-	if len(rows) == 0 || it.locks {
-		if rows, err = c.ask("SELECT pg_current_snapshot()"); err != nil {
-			return err
-		}
-		it.after = snapOf(rows[0][0])
 	}
 	t.asks = append(t.asks, it)
 	return nil

@@ -116,6 +116,12 @@ func (group *phantomGroup) warm(level string) error {
 		for kind := 0; kind < phantomKinds; kind++ {
 			texts = append(texts, conditionOf(kind, 1, 2).asks(group.table)...)
 		}
+		shapesOf(group.table, func(number, kind int) {
+			its := conditionOf(kind, 1, 2).shape(number, group.table)
+			if texts = append(texts, its.text); its.reads != "" {
+				texts = append(texts, its.reads)
+			}
+		})
 		for _, text := range append(texts, "COMMIT") {
 			if _, err := first.ask(text); err != nil {
 				return err

@@ -1,0 +1,62 @@
+package plan
+
+import (
+	"zanteyard/condition"
+	"zanteyard/record"
+)
+
+// Before finds a row by its key among those that earlier statements of the transaction have read.
+type Before func(relation record.Relation, identity record.Identity, key record.Key) (record.Read, bool)
+
+// count is how many constants a side has.
+func (s *side) count() int { return len(s.constants) + len(s.aloneConstants) }
+
+// given returns, for each side of a join that found no row, the row that it asks for by its whole key; nil for one that
+// nobody has read.
+func (p *Plan) given(text string, tokens Tokens, with condition.Arguments, before Before) []*record.Read {
+	rows := make([]*record.Read, len(p.follow.sides))
+	at := 0
+	for i := range p.follow.sides {
+		its := &p.follow.sides[i]
+		if its.alone != nil {
+			with.Constants, with.Left = tokens.texts(text, at+len(its.constants), len(its.aloneConstants)), tokens.left
+			if key, ok := its.alone.Key(with); ok {
+				table := its.alone.Table
+				if read, is := before(record.Relation(table.OID), table.Identity, key); is {
+					rows[i] = &read
+				}
+			}
+		}
+		at += its.count()
+	}
+	return rows
+}
+
+// beside returns the rows beside which a side is asked, if those of all other tables are known.
+func (f *follow) beside(of int, given []*record.Read) (keys map[string][]record.Key, rows []record.Read) {
+	its := &f.sides[of]
+	if given == nil || its.nullable || !its.decides {
+		return nil, nil
+	}
+	keys = map[string][]record.Key{}
+	for i := range f.sides {
+		switch {
+		case i == of, f.sides[i].nullable:
+		case given[i] == nil:
+			return nil, nil
+		default:
+			keys[f.sides[i].name] = []record.Key{given[i].Key}
+			rows = append(rows, *given[i])
+		}
+	}
+	return keys, rows
+}
+
+// texts returns constants, from one of those that are followed on.
+func (t Tokens) texts(text string, from, count int) []string {
+	all := make([]string, count)
+	for i := range all {
+		all[i] = text[t.follow[from+i].from:t.follow[from+i].to]
+	}
+	return all
+}
