@@ -103,6 +103,7 @@ func coverage(it join.Coverage) map[string]any {
 		"unseen": unseen,
 		"connections": map[string]any{
 			"now": it.Connections, "audited": it.Audited, "waiting": it.Waiting, "ever": it.ConnectionsEver,
+			"refused": it.ConnectionsRefused,
 		},
 		"lag":     map[string]any{"bytes": it.LagBytes, "seconds": it.Lag.Seconds()},
 		"pending": it.Pending, "remaining": it.Remaining, "rounds": it.Rounds, "keys": it.Rows,

@@ -22,12 +22,13 @@ type counts struct {
 	asks, asksFollowed, passed uint64 // conditions, and rows they passed over
 	leftAsks                   map[string]uint64
 	leftPassed                 map[string]uint64 // rows that followed conditions may have passed over
+	refused                    map[string]uint64 // connections that the proxy didn't serve
 }
 
 func newCounts() counts {
 	return counts{folded: map[string]uint64{}, partly: map[string]uint64{}, leftReads: map[string]uint64{},
 		leftWrites: map[string]uint64{}, leftAsks: map[string]uint64{},
-		leftPassed: map[string]uint64{}}
+		leftPassed: map[string]uint64{}, refused: map[string]uint64{}}
 }
 
 func (c *counts) fold(reason string) { c.folded[reason]++ }

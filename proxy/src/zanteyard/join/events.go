@@ -88,6 +88,7 @@ type Coverage struct {
 	Unseen                                    []Unseen
 	Connections, Audited, Waiting             int
 	ConnectionsEver                           uint64
+	ConnectionsRefused                        map[string]uint64 // by the proxy, and why
 	LagBytes                                  uint64
 	Lag                                       time.Duration
 	Pending, Remaining, Rows                  int
@@ -182,7 +183,7 @@ func (j *Joiner) coverageEvent(isLast bool) Coverage {
 		Asks: n.asks, AsksFollowed: n.asksFollowed, Passed: n.passed, AsksLeft: copyOf(n.leftAsks),
 		PassedLeft:  copyOf(n.leftPassed),
 		AsksDropped: c.questions.dropped,
-		Unseen:      unseen, Connections: len(c.connections), ConnectionsEver: n.ever,
+		Unseen:      unseen, Connections: len(c.connections), ConnectionsEver: n.ever, ConnectionsRefused: copyOf(n.refused),
 		Lag: c.lag(), Rows: len(c.rows.by), Rounds: n.rounds, StatementsDropped: n.dropped, Lost: n.lost, SubsLost: n.unread,
 		Remaining: c.remain,
 	}

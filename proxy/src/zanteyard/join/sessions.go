@@ -76,6 +76,10 @@ type entry struct {
 
 // enter records what a session reported of a connection.
 func (c *core) enter(it record.Connection) {
+	if it.Refused != "" {
+		c.counts.refused[it.Refused]++
+		return
+	}
 	if it.Ended {
 		if conn := c.connections[it.Number]; conn != nil {
 			conn.ended = true

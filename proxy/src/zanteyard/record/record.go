@@ -171,6 +171,7 @@ type Connection struct {
 	User, Database  string
 	Proxy           string // its name, if it is on another machine
 	Ended           bool
+	Refused         string // why the proxy didn't serve it, of one that never began
 }
 
 // Write is a row that a committed transaction wrote, by its key.

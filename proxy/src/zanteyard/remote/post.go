@@ -79,6 +79,9 @@ func (p *Post) Mark() int64 { return p.shown.Load() }
 
 // Connection implements record.Sink.
 func (p *Post) Connection(it record.Connection) {
+	if it.Refused != "" { // its own log says so
+		return
+	}
 	p.lock.Lock()
 	defer p.lock.Unlock()
 	if it.Ended {

@@ -130,7 +130,7 @@ func TestOwnCredential(t *testing.T) {
 		"a role that doesn't exist": {plain, "nobody_knows", "", false, trusted},
 	} {
 		t.Run(name, func(t *testing.T) {
-			port, _ := proxy(t, x.server, func(o *Options) { o.TrustClients = x.trusts })
+			port, told := proxy(t, x.server, func(o *Options) { o.TrustClients = x.trusts })
 			who, err := ask(url(x.user, port, "sslmode=disable"+x.more), "SELECT 7")
 			var failed *pgconn.PgError
 			switch {
@@ -141,6 +141,12 @@ func TestOwnCredential(t *testing.T) {
 				t.Errorf("%q, %v", who, err)
 			case x.refused != "" && err == nil:
 				t.Errorf("it got in: %q", who)
+			}
+			// What isn't audited isn't counted, nor what the server refuses later.
+			counts := x.refused == trusted && !strings.Contains(x.more, "replication") && !strings.Contains(x.more, "template1") &&
+				x.user != "nobody_knows"
+			if why := told.refusal(counts); (why != "") != counts || counts && why != "the server asks it for no credential" {
+				t.Errorf("counted as refused: %q", why)
 			}
 		})
 	}
@@ -155,12 +161,15 @@ func TestRequireTLS(t *testing.T) {
 		mode     string
 		works    bool
 	}{{true, "disable", false}, {true, "require", true}, {true, "prefer", true}, {false, "disable", true}} {
-		port, _ := proxy(t, url("postgres", theCluster.Port, "sslmode=disable"), func(o *Options) {
+		port, told := proxy(t, url("postgres", theCluster.Port, "sslmode=disable"), func(o *Options) {
 			o.ClientTLS, o.RequireTLS, o.TrustClients = with, x.requires, false
 		})
 		v, err := ask(url("scram", port, "sslmode="+x.mode), "SELECT 7")
 		if x.works != (err == nil && v == "7") || !x.works && !strings.Contains(err.Error(), "without TLS") {
 			t.Errorf("%+v: %q, %v", x, v, err)
+		}
+		if why := told.refusal(!x.works); (why == "") != x.works {
+			t.Errorf("%+v: counted as refused: %q", x, why)
 		}
 	}
 }

@@ -180,10 +180,12 @@ func (s *Server) serve(ctx context.Context, raw net.Conn) {
 	}
 	if s.lacksTLS(raw, client) {
 		s.complain(raw, errNeedTLS)
+		s.refused(first, "it came without TLS, which --require-tls asks for")
 		return
 	}
 	if !s.admit() {
 		client.Write(s.tooMany())
+		s.refused(first, "there were --most-connections already")
 		return
 	}
 	defer s.dismiss()
@@ -192,15 +194,29 @@ func (s *Server) serve(ctx context.Context, raw net.Conn) {
 		s.options.Log("no connection to the server: " + err.Error())
 		client.Write((&pgproto3.ErrorResponse{Severity: "FATAL", SeverityUnlocalized: "FATAL", Code: "08001",
 			Message: "zanteyard-proxy: no connection to the server"}).Encode(nil))
+		s.refused(first, "the server couldn't be reached")
 		return
 	}
 	defer server.Close()
 	if err := s.lets(beginning, client, server, first); err != nil {
 		s.complain(raw, err)
+		switch {
+		case errors.Is(err, errTrusted):
+			s.refused(first, "the server asks it for no credential")
+		case errors.Is(err, errForeign):
+			s.refused(first, "the server asks it for a credential that can't pass through a proxy")
+		}
 		return
 	}
 	begun()
 	s.session(raw, client, server, first.startup())
+}
+
+// refused counts a client that would have been audited.
+func (s *Server) refused(first packet, why string) {
+	if start := first.startup(); !start.replication && start.database == s.options.Database {
+		s.options.Session.Sink.Connection(record.Connection{Refused: why})
+	}
 }
 
 // complain logs why a client isn't served. That it went away, or that the server refused it, is no concern of ours.

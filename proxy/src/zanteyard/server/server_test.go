@@ -116,15 +116,31 @@ func needServer(t *testing.T) {
 }
 
 // counted counts reports.
-type counted struct{ begun, ended, transactions atomic.Int64 }
+type counted struct {
+	begun, ended, transactions atomic.Int64
+	refused                    atomic.Value // why the last one was
+}
 
 func (c *counted) Connection(it record.Connection) {
-	if it.Ended {
+	switch {
+	case it.Refused != "":
+		c.refused.Store(it.Refused)
+	case it.Ended:
 		c.ended.Add(1)
-	} else {
+	default:
 		c.begun.Add(1)
 	}
 }
+
+// refusal returns why a client was refused, or "". A client that was may learn of it before it is counted.
+func (c *counted) refusal(wanted bool) string {
+	for ends := time.Now().Add(time.Minute); wanted && c.refused.Load() == nil && time.Now().Before(ends); {
+		time.Sleep(time.Millisecond)
+	}
+	why, _ := c.refused.Load().(string)
+	return why
+}
+
 func (c *counted) Transaction(record.Transaction) { c.transactions.Add(1) }
 func (c *counted) Unseen(string, string, bool)    {}
 

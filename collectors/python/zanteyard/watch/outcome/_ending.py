@@ -93,6 +93,7 @@ def lines_of(status: Status) -> Iterator[str]:
         yield f"  {counted(status.pending_count, 'read')} named transactions that never arrived"
     yield from (f"  {line}" for line in _table(totals))
     yield from (f"  {line}" for line in seen.more_lines())
+    yield from (f"  {line}" for line in _refused(seen))
     yield from (f"  {line}" for line in _before(status))
     yield from (f"  {line}" for line in _reasons(totals))
     yield from _shapes(seen)
@@ -200,13 +201,23 @@ def _nothing(status: Status) -> Iterator[str]:
     """The outcome of a run in which nothing was checked: what there was, and why not."""
     seen = status.whole_seen
     named = f"the database {visible(status.database)}" if status.database else "the database"
-    if not seen.connections_ever:
+    if not seen.connections_ever and seen.connections_refused:
+        yield f"nothing was checked: the proxy refused each connection to {named}"
+    elif not seen.connections_ever:
         yield f"nothing was checked: no application connected to {named} through the proxy"
     else:
         who = f"{counted(seen.connections_ever, 'connection')} to {named}"
         yield f"nothing was checked: the audit saw no row that {who} read or wrote"
+    yield from (f"  {line}" for line in _refused(seen))
     yield from (f"  {line}" for line in _before(status))
     yield from _shapes(seen)
+
+
+def _refused(seen: Seen) -> Iterator[str]:
+    """The connections that the proxy didn't serve."""
+    for why, count in seen.connections_refused.items():
+        told = with_remedy(visible(why, 200))
+        yield f"the proxy refused {counted(count, 'connection')}, since {told}"
 
 
 def _shapes(seen: Seen) -> Iterator[str]:

@@ -124,6 +124,7 @@ def seen_of(event: Mapping[str, Any]) -> Seen:
         audited_connections=whole(connections.get("audited")),
         waiting_connections=whole(connections.get("waiting")),
         connections_ever=whole(connections.get("ever")),
+        connections_refused=reasons(connections.get("refused")),
         lag_bytes=whole(lag.get("bytes")),
         lag_seconds=number(lag.get("seconds")),
         waiting=whole(event.get("pending")),

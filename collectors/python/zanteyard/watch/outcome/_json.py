@@ -120,6 +120,7 @@ def _seen(seen: Seen) -> dict[str, Any]:
             "now": seen.connections,
             "audited": seen.audited_connections,
             "ever": seen.connections_ever,
+            "refused": dict(seen.connections_refused),
         },
     }
 

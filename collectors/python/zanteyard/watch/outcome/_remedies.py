@@ -58,6 +58,11 @@ REMEDIES: Sequence[tuple[str, str]] = (
     ("a subquery", "run it as a SELECT of its own"),
     ("WITH", "run it as a SELECT of its own"),
     ("a view", "use its tables"),
+    (
+        "the server asks it for no credential",
+        "give its role a password and its rule in pg_hba.conf scram-sha-256, or use "
+        "--trust-clients",
+    ),
     ("a materialized view", "select from its tables"),
     ("what a function reads", "run its SELECTs yourself"),
     ("a procedure", "run its statements yourself"),

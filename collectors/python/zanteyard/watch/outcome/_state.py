@@ -73,6 +73,7 @@ class Seen:
     audited_connections: int = 0
     waiting_connections: int = 0  # for which no session is free
     connections_ever: int = 0
+    connections_refused: Mapping[str, int] = field(default_factory=dict)  # by the proxy; why: count
     lag_bytes: int = 0  # of the server's log that the proxy hasn't read yet
     lag_seconds: float = 0.0
     waiting: int = 0  # transactions that the proxy holds before they are offered
@@ -235,6 +236,14 @@ def added(one: Seen, other: Seen) -> Seen:
         known = shapes.get((it.shape, it.reason, it.is_reads))
         both = it if known is None else replace(known, count=known.count + it.count)
         shapes[(it.shape, it.reason, it.is_reads)] = both
+    refused = dict(one.connections_refused)
+    for why, count in other.connections_refused.items():
+        refused[why] = refused.get(why, 0) + count
     return replace(
-        other, **adds, totals=totals, conditions=conditions, shapes=tuple(shapes.values())
+        other,
+        **adds,
+        totals=totals,
+        conditions=conditions,
+        shapes=tuple(shapes.values()),
+        connections_refused=refused,
     )

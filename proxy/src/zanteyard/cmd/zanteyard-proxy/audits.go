@@ -325,7 +325,7 @@ func (s *switched) connection(it record.Connection) {
 	defer s.lock.Unlock()
 	if it.Ended {
 		delete(s.live, it.Number)
-	} else {
+	} else if it.Refused == "" {
 		s.live[it.Number] = it
 	}
 	(*s.to.Load()).Connection(it)
