@@ -142,9 +142,8 @@ func TestOwnCredential(t *testing.T) {
 			case x.refused != "" && err == nil:
 				t.Errorf("it got in: %q", who)
 			}
-			// What isn't audited isn't counted, nor what the server refuses later.
-			counts := x.refused == trusted && !strings.Contains(x.more, "replication") && !strings.Contains(x.more, "template1") &&
-				x.user != "nobody_knows"
+			// What isn't audited isn't counted.
+			counts := x.refused == trusted && !strings.Contains(x.more, "replication") && !strings.Contains(x.more, "template1")
 			if why := told.refusal(counts); (why != "") != counts || counts && why != "the server asks it for no credential" {
 				t.Errorf("counted as refused: %q", why)
 			}
