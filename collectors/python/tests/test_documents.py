@@ -20,6 +20,7 @@ DOCUMENTS = sorted(
     os.path.relpath(path, TOP) for name in NAMES for path in glob.glob(os.path.join(TOP, name))
 )
 COLUMNS, WORDS = 120, 900
+ALL_WORDS = 47_000  # of all pages together but LICENSES.md, as `wc -w` counts them
 
 # Commands that aren't run here, and the tests that run them.
 ELSEWHERE = {
@@ -109,6 +110,12 @@ class Documents(unittest.TestCase):
 
     def test_the_readme_is_short(self):
         self.assertLessEqual(len(text_of("README.md").split()), WORDS)
+
+    def test_all_pages_together_are_short(self):
+        pages = [name for name in DOCUMENTS if name != "LICENSES.md"]
+        words = sum(len(text_of(name).split()) for name in [*pages, "proxy/README.md"])
+        self.assertLessEqual(words, ALL_WORDS)
+        self.assertGreater(words, ALL_WORDS / 2, "pages are missing here")
 
     def test_every_file_that_is_named_is_there(self):
         places = r"`((?:docs|bench|examples|collectors|crates)/[\w./-]+)`"
