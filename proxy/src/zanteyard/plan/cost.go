@@ -81,7 +81,7 @@ func Cost(answer []byte) (float64, bool) {
 const (
 	lookingUp = 400 // a hundred pages
 	listing   = 50  // 2,500 rows, as many as a small table may have that was never analyzed
-	copying   = 100 // what a statement costs whose rows are asked for once more
+	copying   = 400 // what a statement costs whose rows are asked for once more: as many pages
 )
 
 // Compared reports whether what a statement costs with the hidden columns is compared with what it costs without them.
