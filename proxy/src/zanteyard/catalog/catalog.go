@@ -52,6 +52,8 @@ type Table struct {
 	Foreign bool
 	// Indexes are the sets of columns, by number, that a single index can return.
 	Indexes [][]int16
+	// Unique are the sets of columns, by number, other than the key, of which no two rows have the same values, except NULL.
+	Unique [][]int16
 
 	system   system
 	children int // tables that inherit from it, except partitions

@@ -41,7 +41,8 @@ const IdentitySQL = `(SELECT pg_catalog.encode(pg_catalog.convert_to(pg_catalog.
 
 var indexesSQL = own.SQL(`SELECT i.indrelid::pg_catalog.text, i.indisprimary::pg_catalog.text, i.indisreplident::pg_catalog.text, i.indnkeyatts::pg_catalog.text,
   i.indkey::pg_catalog.text, m.amname::pg_catalog.text,
-  CASE WHEN i.indisprimary THEN ` + IdentitySQL + ` ELSE '' END, i.indimmediate::pg_catalog.text
+  CASE WHEN i.indisprimary THEN ` + IdentitySQL + ` ELSE '' END, i.indimmediate::pg_catalog.text,
+  (i.indisunique AND i.indimmediate AND i.indpred IS NULL AND i.indexprs IS NULL)::pg_catalog.text
 FROM pg_catalog.pg_index i JOIN pg_catalog.pg_class x ON x.oid = i.indexrelid JOIN pg_catalog.pg_am m ON m.oid = x.relam
 WHERE i.indisvalid`)
 

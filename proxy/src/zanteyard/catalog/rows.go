@@ -174,7 +174,7 @@ func (c *Catalog) takeColumn(known types, row []string) error {
 }
 
 func (c *Catalog) takeIndex(row []string) error {
-	if err := width(row, 8); err != nil {
+	if err := width(row, 9); err != nil {
 		return err
 	}
 	oid, err := number(row, 0)
@@ -200,6 +200,9 @@ func (c *Catalog) takeIndex(row []string) error {
 	switch row[5] { // these can return what was indexed
 	case "btree", "gist", "spgist":
 		t.Indexes = append(t.Indexes, columns)
+	}
+	if row[8] == "true" && row[1] != "true" && keyColumns <= len(columns) {
+		t.Unique = append(t.Unique, columns[:keyColumns:keyColumns])
 	}
 	if row[1] != "true" || keyColumns > len(columns) {
 		return nil

@@ -50,7 +50,8 @@ type item struct {
 	natural  bool
 	converts bool // the connection's texts are in another encoding than the server's
 	listed   bool // the rows that an aggregate was made of are listed
-	looked   bool // its rows are looked up by its key
+	looked   bool // its rows are looked up by these columns
+	by       []catalog.Column
 	typed    bool // no description shows over which relation the statement is run
 	// If a subquery in FROM passes its columns on: their names in its result, by their own. named means that it names its table.
 	passed map[string]string

@@ -8,26 +8,42 @@ import (
 )
 
 // An index that has all that a statement asks of a table may answer it alone, and a hidden xmin would prevent that: then the
-// server may choose another plan, which has rows in another order. But if the index has the table's key, too, the row can be
-// looked up by it, for each row of the result: that is one more query among the result's columns, whose cost is the same for
+// server may choose another plan, which has rows in another order. But if the index has the table's key, too, or the columns of
+// a unique index, the row can be looked up by these, for each row of the result: that is one more query among the result's columns, whose cost is the same for
 // all plans of the statement. So the server chooses the same one.
 //
 // A snapshot may show two rows with one key: one that somebody has deleted since, and one that the transaction itself has
 // inserted. Then it isn't known which of them is in the result, and neither is told.
 
-// looksUp reports whether a table's rows can be looked up by its key, with the columns that the statement asks of it.
+// looksUp reports whether a table's rows can be looked up by its key, or by other columns of which no two rows have the same
+// values, with the columns that the statement asks of it.
 func (f *fromClause) looksUp(it *item, columns map[int16]bool) bool {
 	t, m := it.table, f.maker
 	if !f.outermost || f.lists || f.plan.Kind != Select || m.cursor || m.prepared || m.catalog.Foreign || it.sampled ||
 		t.RowSecurity || t.Planned || !t.Alone() { // of a table in parts each would be locked, also those that the server leaves out
 		return false
 	}
-	for _, column := range t.Key {
-		if !isLookedUpBy(column) {
-			return false
+	for _, by := range append([][]int16{keyNumbers(t)}, t.Unique...) {
+		if it.by = numbered(t, by); it.by != nil && t.CoveredWith(columns, by) {
+			return true
 		}
 	}
-	return t.CoveredWith(columns, keyNumbers(t))
+	return false
+}
+
+// numbered returns columns by their numbers, nil if a row can't be looked up by one of them.
+func numbered(t *catalog.Table, numbers []int16) (all []catalog.Column) {
+	for _, number := range numbers {
+		for _, column := range t.Columns {
+			if column.Number == number && isLookedUpBy(column) {
+				all = append(all, column)
+			}
+		}
+	}
+	if len(all) != len(numbers) {
+		return nil
+	}
+	return all
 }
 
 // isLookedUpBy reports whether the server has an operator of its own that compares such columns as their index does.
@@ -53,6 +69,12 @@ func (h *hiding) looksUp(it *item) {
 		name := quote(column.Name)
 		names = append(names, name)
 		row = append(row, keys.Expression(column.Type, alias+"."+name, it.converts))
+	}
+	for _, column := range it.by {
+		name := quote(column.Name)
+		if !contains(names, name) {
+			names = append(names, name)
+		}
 		conditions = append(conditions, alias+"."+name+" OPERATOR(pg_catalog.=) "+quote(it.name)+"."+name)
 	}
 	h.proves(it.written, names)
