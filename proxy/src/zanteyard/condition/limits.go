@@ -60,8 +60,13 @@ func sorts(body tree, of *catalog.Table, resolve func(value any) *catalog.Column
 func renames(body tree, name string) bool {
 	for _, item := range body.list("targetList") {
 		_, target := open(item)
-		kind, _ := open(target["val"])
-		if its := target.text("name"); its == name || its == "" && kind != "ColumnRef" {
+		kind, value := open(target["val"])
+		called := value.names("funcname") // which names a column without a name of its own
+		switch its := target.text("name"); {
+		case its == name:
+			return true
+		case its != "" || kind == "ColumnRef":
+		case kind != "FuncCall" || len(called) == 0 || called[len(called)-1] == name:
 			return true
 		}
 	}

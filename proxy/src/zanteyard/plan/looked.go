@@ -9,8 +9,8 @@ import (
 
 // An index that has all that a statement asks of a table may answer it alone, and a hidden xmin would prevent that: then the
 // server may choose another plan, which has rows in another order. But if the index has the table's key, too, or the columns of
-// a unique index, the row can be looked up by these, for each row of the result: that is one more query among the result's columns, whose cost is the same for
-// all plans of the statement. So the server chooses the same one.
+// a unique index, the row can be looked up by these, for each row of the result: that is one more query among the result's
+// columns, whose cost is the same for all plans of the statement. So the server chooses the same one.
 //
 // A snapshot may show two rows with one key: one that somebody has deleted since, and one that the transaction itself has
 // inserted. Then it isn't known which of them is in the result, and neither is told.

@@ -21,6 +21,9 @@ INSERT INTO pieces SELECT i % 500, 'b' || i FROM generate_series(1, 5000) i;
 CREATE TABLE moods (m mood, who varchar(64), yes boolean, PRIMARY KEY (m, who, yes));
 INSERT INTO moods SELECT CASE i % 2 WHEN 0 THEN 'sad' ELSE 'it''s ok' END::mood, 'w' || i / 8, i % 3 = 0 FROM generate_series(1, 4000) i
   ON CONFLICT DO NOTHING;
+CREATE TABLE paired (id int PRIMARY KEY, a int NOT NULL, b int NOT NULL, c int, UNIQUE (a, b)); CREATE INDEX ON paired (a); CREATE INDEX ON paired (b);
+CREATE UNIQUE INDEX ON paired (c, a) WHERE c > 0; CREATE UNIQUE INDEX ON paired (b, c, abs(a));
+INSERT INTO paired SELECT i, i / 10, i % 10, i FROM generate_series(1, 5000) i;
 CREATE TABLE odd_keys (n numeric, m int, PRIMARY KEY (n, m)); INSERT INTO odd_keys SELECT i / 10, i FROM generate_series(1, 2000) i;`)
 	run(t, connection, "VACUUM ANALYZE")
 	known := load(t, connection, catalog.OnlyCertainLists)
@@ -42,13 +45,17 @@ CREATE TABLE odd_keys (n numeric, m int, PRIMARY KEY (n, m)); INSERT INTO odd_ke
 		{"SELECT m, who, yes FROM moods WHERE who IN ('w7', 'w8') AND m = 'sad' AND yes = false", true, ""},
 		{"SELECT b FROM linked WHERE a = 7 FOR UPDATE", false, ""},
 		{"SELECT note FROM linked WHERE a = 7", false, ""},
+		{"SELECT a, b FROM paired WHERE a = 7", true, ""}, // by its unique columns
+		{"SELECT u.w FROM paired p JOIN u ON u.t = p.b WHERE p.a = 3", true, ""},
+		{"SELECT a FROM paired WHERE a = 7", false, ByIndex}, // the index of a alone hasn't these
+		{"SELECT a, c FROM paired WHERE a = 7 AND c > 0", false, ByIndex},
 		{"SELECT b FROM linked WHERE b > 7", false, ByIndex}, // the index of b alone hasn't the key
 		{"SELECT age FROM people WHERE age = 7", false, ByIndex},
 		{"SELECT n FROM odd_keys WHERE n = 7", false, ByIndex},
 		{"SELECT x.b FROM (SELECT b FROM linked WHERE a = 7 LIMIT 2) x", false, ByIndex},
 		{"DECLARE c CURSOR FOR SELECT a, b FROM linked WHERE a = 7", false, ""},
 		{"PREPARE p AS SELECT a, b FROM linked WHERE a = 7", false, ""},
-		{"SELECT b FROM linked WHERE a = 7 UNION ALL SELECT 1", false, ByIndex},
+		{"SELECT b FROM linked WHERE a = 7 UNION ALL SELECT 1", false, ""},
 	} {
 		p, tokens := cache.Plan(c.text)
 		if p.looksUp != c.looks || c.unseen != "" && reasons(p) != c.unseen || c.looks && len(p.Unseen) > 0 {

@@ -203,7 +203,7 @@ func (c *phantomClient) select_(t *phantomTxn, own map[int]bool) error {
 	if c.r.Intn(3) == 0 {
 		its := someShape(c.r, c.table)
 		shape, text, it.locks = &its, its.text, false
-		if its.reads != "" && c.r.Intn(4) > 0 {
+		if its.reads != "" {
 			if _, err := c.ask(its.reads); err != nil {
 				return err
 			}
