@@ -40,6 +40,30 @@ func TestCacheKnowsTextsThatDifferInConstants(t *testing.T) {
 	}
 }
 
+// TestCursorsNames: statements that differ in a cursor's name alone have one plan, but for the name, whatever was sent before
+// them: also one with a name that the server refuses.
+func TestCursorsNames(t *testing.T) {
+	cache := NewCache(none(t))
+	for _, form := range []string{`DECLARE %s CURSOR FOR SELECT 1`, "FETCH %s", "FETCH 2 FROM %s", "MOVE %s", "CLOSE %s"} {
+		before, _ := cache.Plan(fmt.Sprintf(form, `""`))
+		first, _ := cache.Plan(fmt.Sprintf(form, `"a 1"`))
+		for _, name := range []string{"a 1", "A", "ALL", "next", strings.Repeat("x", 63)} {
+			p, _ := cache.Plan(fmt.Sprintf(form, `"`+name+`"`))
+			if p.Unknown || p.Name != name || p.Kind != first.Kind || p.Shared() != first.Shared() {
+				t.Errorf(form+": kind %v, of %q, unknown: %v", name, p.Kind, p.Name, p.Unknown)
+			}
+		}
+		for _, name := range []string{`""`, `"a""b"`, `U&"\0061 1"`, `"` + strings.Repeat("x", 64) + `"`, "a"} {
+			if p, _ := cache.Plan(fmt.Sprintf(form, name)); p.Shared() == first.Shared() || p.Unknown != (name == `""`) {
+				t.Errorf(form+": the plan of other names", name)
+			}
+		}
+		if again, _ := cache.Plan(fmt.Sprintf(form, `""`)); again != before {
+			t.Errorf(form+": another plan", `""`)
+		}
+	}
+}
+
 func TestCacheIsBounded(t *testing.T) {
 	cache := NewCache(none(t))
 	often := "SELECT often"

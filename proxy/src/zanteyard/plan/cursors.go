@@ -61,7 +61,10 @@ func (s *scanner) quoted(i int) (string, bool) {
 	return name, true
 }
 
-// nameless leaves a cursor's name out of the key. No other key has an empty name: it is an error.
+// noName stands for a cursor's name in the key. No token has a NUL: an empty name is in a text of its own, an error.
+const noName = "\"\x00\""
+
+// nameless leaves a cursor's name out of the key.
 func (s *scanner) nameless() {
 	at := s.cursor()
 	if at == nowhere {
@@ -70,7 +73,7 @@ func (s *scanner) nameless() {
 	t := s.tokens[at]
 	begin := int(t.key)
 	rest := append([]byte(nil), s.key[begin+int(t.end-t.start):]...)
-	s.key = append(append(s.key[:begin], `""`...), rest...)
+	s.key = append(append(s.key[:begin], noName...), rest...)
 }
 
 // named is the plan with the cursor's name that a text has.

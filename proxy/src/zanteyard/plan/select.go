@@ -14,12 +14,11 @@ func (m *maker) selects(p *Plan, body node, start, end int) {
 	if lists, _ := m.merges(body); !lists && !body.has("larg") || len(p.Unseen) == len(before.Unseen) {
 		return
 	}
-	its := before
-	if !m.repeats(&its, body, start, end) {
-		return
+	if _, all := unionAll(body); all && body.has("larg") && !body.has("sortClause") {
+		return // it returns rows before it has read all: then it isn't asked again
 	}
-	// A UNION ALL that doesn't sort may return rows before it has read all: then it isn't asked again.
-	if !p.adds() || len(its.Unseen) < len(p.Unseen) && (!body.has("larg") || body.has("sortClause")) {
+	its := before
+	if m.repeats(&its, body, start, end) && (!p.adds() || len(its.Unseen) < len(p.Unseen)) {
 		*p = its
 	}
 }

@@ -39,14 +39,13 @@ func (s *Session) mayBeFetch(st *statement) bool {
 // foretells takes the description of a FETCH's portal.
 func (s *Session) foretells(p *portal, columns []wire.Column) {
 	x := expectation{on: p.on}
-	var of *cursor
-	if s.fetched(&x); x.hides != nil {
-		of = s.names.cursor(x.current().Name)
-	} else if s.recognizes(&x, columns); x.hides == nil {
-		return
+	if s.fetched(&x); x.hides == nil || s.isAnother(&x, columns) {
+		if s.recognizes(&x, columns); x.hides == nil {
+			return
+		}
 	}
 	x.shows(columns)
-	p.told = &foretold{of, x.hides, x.hidden, len(columns), columns[len(columns)-1].Format == 1, x.isOver}
+	p.told = &foretold{x.of, x.hides, x.hidden, len(columns), columns[len(columns)-1].Format == 1, x.isOver}
 }
 
 // presumes takes a row for one of what was described behind the Bind, if nothing better is known and it has as many columns.
@@ -85,6 +84,25 @@ func appendDescribePortal(to []byte, name []byte) []byte {
 	start := len(to)
 	to = append(wire.Begin(to, 'D'), 'P')
 	return wire.End(append(append(to, name...), 0), start)
+}
+
+// isAnother reports whether a cursor's name stands for another one, as the server's description shows, and forgets it then: a
+// savepoint was rolled back to from before the DECLARE, or a function has closed it.
+func (s *Session) isAnother(e *expectation, columns []wire.Column) bool {
+	if e.of == nil {
+		return false
+	}
+	is := len(columns) < e.hidden
+	for i := len(columns) - e.hidden; i < len(columns) && !is; i++ {
+		is = !plan.IsHidden(columns[i].Name)
+	}
+	if is {
+		if name := e.current().Name; s.names.cursors[name] == e.of {
+			s.drops(name)
+		}
+		e.of, e.hides, e.hidden, e.replaced = nil, nil, 0, false
+	}
+	return is
 }
 
 // recognizes looks for the cursor whose rows have these columns, and makes the answer be cut like them.

@@ -198,3 +198,28 @@ func TestHeldByNames(t *testing.T) {
 		t.Errorf("told %s", got)
 	}
 }
+
+// TestNameOfAnotherCursor: a client gets all columns of a cursor that a function has opened by the name of one of the client's,
+// which the server has no more.
+func TestNameOfAnotherCursor(t *testing.T) {
+	needServer(t)
+	sql(t, `CREATE OR REPLACE FUNCTION opens_by(c refcursor) RETURNS refcursor LANGUAGE plpgsql AS $$BEGIN
+		OPEN c FOR SELECT id, v, w, id + 1 AS a, v + 1 AS b, w AS x FROM t ORDER BY id; RETURN c; END$$;
+		CREATE OR REPLACE FUNCTION closes_by(c refcursor) RETURNS int LANGUAGE plpgsql AS $$BEGIN CLOSE c; RETURN 1; END$$`)
+	defer sql(t, "DROP FUNCTION opens_by; DROP FUNCTION closes_by")
+	const inOne = "DECLARE h CURSOR FOR SELECT id, v FROM t ORDER BY id"
+	held := strings.Replace(inOne, "CURSOR", "CURSOR WITH HOLD", 1)
+	for name, before := range map[string][]step{
+		"undone":                   queries("BEGIN", "SAVEPOINT s", held, "ROLLBACK TO s", "COMMIT", "BEGIN"),
+		"undone in one":            queries("BEGIN", "SAVEPOINT s", inOne, "FETCH 1 FROM h", "ROLLBACK TO s"),
+		"closed by a function":     queries(held, "SELECT closes_by('h')", "BEGIN"),
+		"closed, in one":           queries("BEGIN", inOne, "FETCH 1 FROM h", "SELECT closes_by('h')"),
+		"undone, with another one": queries("BEGIN", inOne, "SAVEPOINT s", strings.Replace(held, "h", "i", 1), "CLOSE h", held, "ROLLBACK TO s"),
+	} {
+		for _, fetch := range []step{query("FETCH 2 FROM h"), messages('Z', &pgproto3.Parse{Query: "FETCH 2 FROM h"}, &pgproto3.Bind{},
+			&pgproto3.Execute{}, &pgproto3.Sync{})} {
+			steps := join(before, queries("SELECT opens_by('h')"), []step{fetch}, queries("COMMIT", "CLOSE ALL"))
+			t.Run(name, func(t *testing.T) { exchangeSame(t, exchange{steps: steps}, 3) })
+		}
+	}
+}

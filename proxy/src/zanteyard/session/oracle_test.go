@@ -260,6 +260,9 @@ func simpleExchanges() []exchange {
 			"UPDATE t SET v = 7 WHERE id = 3", "FETCH 3 FROM h", "BEGIN", "FETCH 1 FROM h", "SELECT 1 / 0", "FETCH 1 FROM h", "ROLLBACK",
 			"FETCH 1 FROM h", "BEGIN", "SAVEPOINT s", "FETCH 1 FROM h", "ROLLBACK TO s", "FETCH 1 FROM h", "COMMIT", "FETCH ALL FROM h",
 			"FETCH 1 FROM h", "DEALLOCATE ALL", "FETCH FIRST FROM h", "DISCARD ALL", "FETCH 1 FROM h")},
+		{name: "cursors' names", sees: 1, steps: queries(`FETCH ""`, `CLOSE ""`, `MOVE ""`, `DECLARE "" CURSOR WITH HOLD FOR SELECT id, v FROM t`,
+			`DECLARE "ALL" SCROLL CURSOR WITH HOLD FOR SELECT id, v FROM t ORDER BY id`, `FETCH "ALL"`, `FETCH 1 FROM "all"`, `FETCH 2 FROM "ALL"`,
+			`MOVE "ALL"`, `FETCH U&"\0041LL"`, `FETCH 1 FROM U&"!0041LL" UESCAPE '!'`, `CLOSE "all"`, `FETCH "ALL"`, `CLOSE "ALL"`, `FETCH "ALL"`)},
 		{name: "cursors that stay, binary", sees: 3, steps: queries(
 			"DECLARE h BINARY NO SCROLL CURSOR WITH HOLD FOR SELECT id, w FROM t WHERE id > 3 ORDER BY id", "FETCH 2 FROM h",
 			"FETCH FORWARD 3 FROM h; FETCH 1 FROM h", "FETCH PRIOR FROM h", "CLOSE ALL", "FETCH h")},

@@ -161,7 +161,7 @@ func (s *Session) description(o *output, e *expectation, m []byte, start, end in
 	if unseen := e.hidden == 0 && e.kind == clients && s.mayFetch(e.on, e.current()); unseen || e.hidden > 0 || e.kind == portalColumns {
 		columns, ends, ok = wire.Columns(m, s.columns[:0], s.ends[:0])
 		s.columns, s.ends = columns, ends
-		if ok && unseen {
+		if unseen = unseen || ok && s.isAnother(e, columns); ok && unseen {
 			s.recognizes(e, columns)
 		}
 	}
