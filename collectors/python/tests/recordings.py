@@ -5,7 +5,7 @@ import random
 from dataclasses import dataclass, field
 
 from zanteyard.imports._recording import ABORTED, APPEND, COMMITTED, READ, READ_LIST, UNKNOWN, WRITE
-from zanteyard.imports._recording import Access, Attempt
+from zanteyard.imports._recording import BETWEEN, Access, Attempt
 
 ENDS = {COMMITTED: "ok", ABORTED: "fail", UNKNOWN: "info"}
 
@@ -173,6 +173,11 @@ def as_csv(attempts, random_):
 # Judging.
 
 
+def elements_of(value):
+    """The elements of a list that was read."""
+    return tuple(value.split(BETWEEN)) if value else ()
+
+
 def attempts_of(attempts, is_of_lists):
     """The same in the package's form."""
     return [
@@ -180,7 +185,7 @@ def attempts_of(attempts, is_of_lists):
             Access(
                 {"r": READ_LIST if is_of_lists else READ, "w": WRITE, "append": APPEND}[f],
                 str(key),
-                tuple(map(str, value or ())) if is_of_lists and f == "r"
+                BETWEEN.join(map(str, value or ())) if is_of_lists and f == "r"
                 else None if value is None else str(value),
                 "",
             )
@@ -216,7 +221,7 @@ def is_explained(attempts, ignored=(), earlier=None):
             elif attempt.outcome == COMMITTED:
                 wanted = access.value
                 if access.kind == READ_LIST:
-                    now = now or ()
+                    now, wanted = now or (), elements_of(wanted)
                     if any((access.key, one) in ignored for one in wanted):
                         continue
                 elif (access.key, wanted) in ignored and access.key not in own:
@@ -258,7 +263,7 @@ def nobodys(attempts):
         if one.outcome == COMMITTED
         for it in one.accesses
         if it.kind in (READ, READ_LIST)
-        for value in (it.value if it.kind == READ_LIST else (it.value,))
+        for value in (elements_of(it.value) if it.kind == READ_LIST else (it.value,))
         if value is not None and (it.key, value) not in written
     }
 

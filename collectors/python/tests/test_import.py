@@ -282,7 +282,7 @@ def deeds_of(attempts):
     """What each client did, without names."""
     found = {}
     for one in attempts:
-        its = [(it.kind, it.key, it.value) for it in one.accesses
+        its = [(it.kind, it.key, it.value or (it.kind == "read-list" and "")) for it in one.accesses
                if one.outcome == COMMITTED or it.kind not in ("read", "read-list")]
         if its:
             found.setdefault(one.client, []).append((one.outcome, its))
@@ -631,7 +631,7 @@ class Limits(unittest.TestCase):
         opened, *_, undone, reader, _ = map(json.loads, imported.lines)
         self.assertEqual((opened, undone[3]), (["open", 3, 3, 2], [[[], [1], "aborted"]]))
         self.assertEqual(reader[3], [[[[1, 1, 0]], []]])
-        self.assertEqual(imported.names.transactions[1][0].texts, (([1], "line 4: write rent 90"),))
+        self.assertEqual(imported.names.transactions[1][0].texts, (((1,), "line 4: write rent 90"),))
         unread = import_text("csv", text.replace("carol,0,read,rent,90", "carol,0,read,rent,100"))
         self.assertEqual(json.loads(unread.lines[0]), ["open", 2, 2])
         self.assertEqual(judged_script(imported.lines), "violated")

@@ -1,9 +1,10 @@
-"""What makes the import of Jepsen's EDN fast changes nothing: lines that one expression takes apart
-say what the reader of any EDN makes of them."""
+"""What makes the import of Jepsen's files fast changes nothing: lines that one expression takes
+apart, in several processes, say what the readers of any EDN and JSON make of them."""
 import contextlib
 import fcntl
 import gzip
 import io
+import json
 import os
 import re
 import subprocess
@@ -11,16 +12,18 @@ import sys
 import tempfile
 import termios
 import unittest
+from collections import Counter
 from unittest import mock
 
 from zanteyard.cli._main import main
 from zanteyard.core.errors import ImportRefusedError
-from zanteyard.imports import _edn_lines
+from zanteyard.core import _processes
+from zanteyard.imports import _jepsen
 from zanteyard.imports._command import import_text
 from zanteyard.imports._edn import EdnReader
-from zanteyard.imports._edn_lines import EdnLines, PlainMicros
 from zanteyard.imports._guess import history_form
 from zanteyard.imports._jepsen import read_jepsen
+from zanteyard.imports._plain_lines import EDN, JSON, EdnLines, JsonLines, PlainMicros
 from zanteyard.program._binaries import PROGRAM
 
 from . import recordings, test_import
@@ -38,10 +41,19 @@ def told(text, form, **more):
         return str(error)
 
 
-def slowly(text, form, **more):
-    """The same by `EdnReader` alone."""
-    with mock.patch.object(_edn_lines, "MOST_SHAPES", 0):
-        return told(text, form, **more)
+def slowly(text, form, is_independent=False):
+    """The same by the strict readers alone."""
+    reading = _jepsen._Operations(text, form == "jepsen-lists", is_independent, (), True)
+    try:
+        return reading.recording(form)
+    except ImportRefusedError as error:
+        return str(error)
+
+
+def in_blocks(text, form, front, block):
+    """The same by several processes, which read blocks of so many characters."""
+    with mock.patch.multiple(_jepsen, FRONT=front, BLOCK=block):
+        return told(text, form)
 
 
 def as_jepsen(text):
@@ -59,6 +71,14 @@ def as_jepsen(text):
                     len(lines),
                 ))
     return "".join(lines)
+
+
+def as_json_lines(text):
+    """The same of a text as `recordings.as_json` makes it: compact, or with spaces."""
+    text = text.strip()
+    maps = json.loads(text) if text[0] == "[" else map(json.loads, text.splitlines())
+    separators = ((",", ":"), (", ", ": "))[len(text) % 2]
+    return "".join(f"{json.dumps(one, separators=separators)}\n" for one in maps)
 
 
 def edn(value):
@@ -79,16 +99,21 @@ class Fast(unittest.TestCase):
             for seed in range(first, first + count):
                 attempts, random_ = wanted(form, seed)
                 yield form, as_jepsen(recordings.as_edn(attempts, random_)), random_
+                yield form, as_json_lines(recordings.as_json(attempts, random_)), random_
 
-    def test_two_hundred_histories(self):
-        plain = 0
+    def test_four_hundred_histories(self):
+        plain = Counter()
         for form, text, _ in self.texts(100):
             with self.subTest(form=form, text=text):
                 self.assertEqual(told(text, form), slowly(text, form))
-            plain += sum(not hasattr(found, "items") for _, found in EdnLines(text).maps())
-        self.assertGreater(plain, 500)  # lines that were taken apart at once
+            is_json = text.startswith('{"')
+            syntax, lines = (JSON, JsonLines) if is_json else (EDN, EdnLines)
+            maps = lines(text, PlainMicros(syntax, form == "jepsen-lists")).maps()
+            plain[is_json, form] += sum(isinstance(found, tuple) for _, found in maps)
+        self.assertEqual(len(plain), 4)
+        self.assertGreater(min(plain.values()), 250)  # lines that were taken apart at once
 
-    def test_two_thousand_that_are_changed(self):
+    def test_four_thousand_that_are_changed(self):
         refused = 0
         for form, text, random_ in self.texts(200, 500):
             for _ in range(5):
@@ -97,7 +122,72 @@ class Fast(unittest.TestCase):
                     outcome = told(changed, form)
                     self.assertEqual(outcome, slowly(changed, form))
                     refused += isinstance(outcome, str)
-        self.assertGreater(refused, 200)
+        self.assertGreater(refused, 400)
+
+    def test_blocks_in_several_processes(self):
+        """Also when a block begins in the middle of a map, a vector isn't closed there, and lines
+        are changed."""
+        refused, blocks, real = 0, Counter(), _processes.shared
+
+        def counted(work, parts):
+            for found in real(work, parts):
+                blocks[found is None] += 1
+                yield found
+
+        with mock.patch("os.sched_getaffinity", lambda _: range(4)), \
+                mock.patch.object(_jepsen, "shared", counted):
+            for number, (form, text, random_) in enumerate(self.texts(12, 900)):
+                wide = text.replace(", :time", ",\n:time") if number % 4 == 0 else text
+                closed = f"[{wide}]" if number % 3 == 0 and text[1] == ":" else wide
+                for changed in (text, closed, mutated(text, random_)):
+                    front, block = random_.randrange(200), random_.randrange(1, 300)
+                    with self.subTest(form=form, text=changed, front=front, block=block):
+                        outcome = in_blocks(changed, form, front, block)
+                        self.assertEqual(outcome, slowly(changed, form))
+                        refused += isinstance(outcome, str)
+        self.assertGreater(refused, 10)
+        self.assertGreater(min(blocks[True], blocks[False]), 10, blocks)
+
+    def test_a_block_within_a_string(self):
+        """What looks like lines of the file, in a string that is longer than a block, is none."""
+        lines = LINE % ("invoke", "[[:w 1 2]]", 0, 1, 0) + LINE % ("ok", "[[:w 1 2]]", 0, 2, 1)
+        other = lines.replace(":process 0", ":process 1").replace("1 2]", "1 3]")
+        text = f'{lines}{{:process :nemesis, :type :info, :f :x, :value "\n{other}"}}\n{lines}'
+        self.assertEqual(len(told(text, "jepsen-registers").attempts), 2)
+        for front in range(0, len(text), 20):
+            for block in (1, 50, 100, 150):
+                with mock.patch.multiple(_jepsen, FRONT=front, BLOCK=block):
+                    # Without the strict reader, which is asked if this goes wrong.
+                    reading = _jepsen._Operations(text, False, False, (), False)
+                    found = reading.recording("jepsen-registers")
+                self.assertEqual(found, slowly(text, "jepsen-registers"), (front, block))
+
+    def test_functions_left_out_in_blocks(self):
+        read = "{:type :invoke, :f :read, :value nil, :process 1}\n"
+        read += "{:type :ok, :f :read, :value {1 1}, :process 1}\n"
+        txn = LINE % ("invoke", "[[:w 1 1]]", 0, 1, 0) + LINE % ("ok", "[[:w 1 1]]", 0, 2, 1)
+        with mock.patch.multiple(_jepsen, FRONT=200, BLOCK=300):
+            found = import_text("jepsen-registers", txn + read * 100, left_out=["read"])
+        self.assertIn("100 operations of read left out", "\n".join(found.about))
+
+    def test_processes_that_are_not_to_be_had(self):
+        """A process that is killed, or can't be begun, costs nothing but time."""
+        form, text, _ = next(self.texts(1))
+        wanted_ = slowly(text, form)
+
+        def killed(*_):
+            os.kill(os.getpid(), 9)
+
+        def refused():
+            raise BlockingIOError
+
+        for name, broken in (("zanteyard.core._processes._run", killed), ("os.fork", refused)):
+            with self.subTest(name), mock.patch(name, broken):
+                self.assertEqual(in_blocks(text, form, 0, 100), wanted_)
+                self.assertEqual(_processes.shared_all(len, ["ab", "c"]), [2, 1])
+        self.assertEqual(_processes.shared_all(len, ["ab", "c", "def"]), [2, 1, 3])
+        with self.assertRaises(ChildProcessError):
+            os.waitpid(-1, os.WNOHANG)  # none is left
 
     def test_what_only_looks_plain(self):
         """Each row is a value that the quick reading must not take for another one."""
@@ -112,16 +202,38 @@ class Fast(unittest.TestCase):
             "[[:r 1 ]]", "[[:r 1 2 3]]", "[[:cas 1 2]]", "[]", "[[]]", "[[:]]",
         )
         for row in rows:
-            text = LINE % ("invoke", row, 0, 1, 0) + LINE % ("ok", row, 0, 2, 1)
-            for form in self.FORMS:
-                with self.subTest(row=row, form=form):
-                    self.assertEqual(told(text, form), slowly(text, form))
+            self.compare(LINE % ("invoke", row, 0, 1, 0) + LINE % ("ok", row, 0, 2, 1))
+
+    def compare(self, text):
+        for form in self.FORMS:
+            with self.subTest(text=text, form=form):
+                self.assertEqual(told(text, form), slowly(text, form))
+
+    def test_what_only_looks_plain_in_json(self):
+        rows = (
+            '[["r",1,007]]', '[["r",1,-0]]', '[["r",1,1.0]]', '[["r",1,1e1]]', '[["r","a b",null]]',
+            '[["r","a","b"]]', '[["r","a\\u0041",1]]', '[["w","a]",1]]', '[["w","a,b",1]]',
+            '[["r",1,null]  ,["w",1,2]]', '[["r",1,null] ["w",1,2]]', '[["r",1,null],3,["w",1,2]]',
+            '[["r",1,[2,3]]]', '[["r",1,[2, 3]]]', '[["r",1,[2 3]]]', '[["r",1,[2,,3]]]',
+            '[["r",1,["a","b"]]]', '[["r",1,["a, b"]]]', '[["r",1,["a","b,c"]]]', '[["r",1,[]]]',
+            '[["r",1,[2,3]],["append",1,4]]', '[["r",1,[02]]]', '[["r",1,[null]]]', '[["r",1,[[2]]]]',
+            '[["r",1,[2,3 ]]]', '[["w",null,1]]', '[["w",true,1]]', '[["w",1,null]]', "[]", "[[]]",
+            '[["r", 1, [2, 3]], ["append", 1, 4]]', '[["w","\u00e9",1]]', '[["w",1,"nil"]]',
+        )
+        line = '{"type":"%s","f":"txn","value":%s,"process":0,"error":"%s"}\n'
+        for row in rows:
+            plain = '[["r",1,null]]' if "append" in row else '[["w",1,2]]'
+            self.compare(
+                line % ("invoke", plain, "") + line % ("ok", plain, "x") +
+                line % ("invoke", row, "") + line % ("ok", row, "a b") +
+                line % ("invoke", row, "") + line % ("fail", row, "}{")
+            )
 
     def test_lists_that_go_on_from_one_another(self):
-        micros = PlainMicros(True)
+        micros = PlainMicros(EDN, True)
         for elements in ("1 2 3", "1 2", "1", "1 2 3 14", "1 2 3 1", "1 3", "", "1 2 3 14 5"):
             (read,) = micros.of(f"[[:r 7 [{elements}]]]")
-            self.assertEqual(read.value, tuple(elements.split()), elements)
+            self.assertEqual(read, ("read-list", "7", "\n".join(elements.split()), ""), elements)
 
     def test_tags_vectors_comments_and_blank_lines(self):
         lines = LINE % ("invoke", "[[:w 1 2]]", 0, 1, 0), LINE % ("ok", "[[:w 1 2]]", 0, 2, 1)
@@ -165,7 +277,7 @@ class Fast(unittest.TestCase):
                     text += LINE % (type, f"[{' '.join(micros)}]", process, index, index)
                     index += 1
             fast = import_text("jepsen-lists", text)
-            with mock.patch("zanteyard.imports._sources.Chain.common", lambda self, front: 0):
+            with mock.patch("zanteyard.imports._sources.Chain.add", lambda *_: None):
                 self.assertEqual(import_text("jepsen-lists", text), fast, text)
 
 

@@ -40,7 +40,7 @@ def kind_owed(history, times, name):
 
 def kind_told(lines, promise, times=None):
     asked_about = ScriptTimes("ns", times) if times is not None else None
-    with ScriptRun(PROGRAM, promise=promise, times=asked_about) as run:
+    with ScriptRun(PROGRAM, promise=promise, times=lambda: asked_about) as run:
         (verdict,) = run.verdicts([json.dumps(line).encode() for line in lines])
         return verdict
 

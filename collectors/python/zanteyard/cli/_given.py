@@ -1,22 +1,22 @@
-"""The file to check: a script, or a history of another tool, which is imported first, into a folder
-that is removed at the end."""
+"""The file to check: a script, or a history of another tool, which is imported first."""
 
 import argparse
 import contextlib
 import io
 import os
 import sys
-import tempfile
-from collections.abc import Iterator, Sequence
+from collections.abc import Iterable, Iterator, Sequence
 from dataclasses import dataclass
 from typing import IO, Any
 
 from ..core._visible import say
 from ..core.errors import CantBeAskedError
+from ..scripts._names import ScriptNames, read_names
 from ..scripts._running import Verdict
+from ..scripts._times import ScriptTimes, checked_times, read_times
 from ..imports._command import FORMS, add_history_options, import_text, text_in
-from ..imports._command import write as write_script
 from ..imports._guess import FIRST, history_form
+from ..imports._script_parts import Imported
 from ..journal._file import NAME as JOURNAL
 from ..promises._kinds import STRICT
 from ._progress import Progress
@@ -29,11 +29,27 @@ FOR_HISTORIES = ("form", "initial", "first", "independent", "leave_out")
 class Given:
     """The script to check: the given one, or the one that was made of a history."""
 
-    script: str
+    script: str  # its path; empty if it was made of a history
     about: str  # the file's name
-    lines: IO[bytes]
+    lines: Iterable[bytes]
     form: str = ""  # of the history
     imported: Sequence[str] = ()  # how it was turned into the script
+    made: Imported | None = None  # that script
+
+    def names(self) -> ScriptNames | None:
+        """The names of the script's transactions, if there are any."""
+        if self.made is not None:
+            return self.made.names
+        names, why_not = read_names(self.script) if self.script != "-" else (None, "")
+        if why_not:
+            say(f"({why_not})")
+        return names
+
+    def times(self) -> ScriptTimes | None:
+        """When the script's transactions ran, if that is known. Raises CantBeAskedError."""
+        if self.made is not None:
+            return self.made.times and checked_times(self.made.times, self.about)
+        return read_times(self.script) if self.script != "-" else None
 
     def where(self, verdict: Verdict) -> str:
         """Which round the verdict is from. Lines of a script that nobody has seen aren't named."""
@@ -90,19 +106,16 @@ def _imported(
     asked: argparse.Namespace, progress: Progress, form: str, whole: bytes
 ) -> Iterator[Given]:
     about = os.path.basename(asked.script) if asked.script != "-" else "a history"
-    with tempfile.TemporaryDirectory(prefix="zanteyard-") as folder:
-        script = os.path.join(folder, "script")
-        with progress.during(IMPORTING):
-            is_timed = getattr(asked, "promise", None) == STRICT.name
-            settings = (asked.first, asked.initial, is_timed, asked.independent, asked.leave_out)
-            imported = import_text(form, text_in(whole, about), *settings)
-            write_script(imported, script)
-        if not getattr(asked, "json", False):
-            say(f"{about}, read as {form}: {imported.about[0]}")
-            for line in imported.about[1:]:
-                say(f"  {line}")
-        with open(script, "rb") as lines:
-            yield Given(script, about, lines, form, imported.about)
+    with progress.during(IMPORTING):
+        is_timed = getattr(asked, "promise", None) == STRICT.name
+        settings = (asked.first, asked.initial, is_timed, asked.independent, asked.leave_out)
+        imported = import_text(form, text_in(whole, about), *settings)
+    if not getattr(asked, "json", False):
+        say(f"{about}, read as {form}: {imported.about[0]}")
+        for line in imported.about[1:]:
+            say(f"  {line}")
+    lines = (line.encode() for line in imported.lines)
+    yield Given("", about, lines, form, imported.about, imported)
 
 
 def refuse_options(asked: argparse.Namespace, names: Sequence[str], why: str) -> None:

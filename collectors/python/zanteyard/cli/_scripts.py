@@ -13,13 +13,11 @@ from ..explain._json import levels_json, say_json, story_json
 from ..explain._levels import Answer, Levels, levels_lines
 from ..explain._report import EXPLAINED, Story, verdict_story, violation_story
 from ..imports._garbage import no_collections
-from ..scripts._names import ScriptNames, read_names
-from ..scripts._times import ScriptTimes, read_times
 from ..scripts._running import MORE, ScriptRun, Verdict
 from ..program import _check_report
 from ..program._binaries import find_program
 from ..promises._kinds import ALL, ASKED, STRICT
-from ._given import FOR_HISTORIES, add_file, given, is_journal, refuse_options
+from ._given import FOR_HISTORIES, Given, add_file, given, is_journal, refuse_options
 from ._journal import run_journal
 from ._junit import junit_report
 from ._parsing import add_old_name, one_of
@@ -146,22 +144,9 @@ def _nodes(text: str) -> int:
     return nodes
 
 
-def _names(path: str) -> ScriptNames | None:
-    """The names next to the script, if there are any."""
-    names, why_not = read_names(path) if path != "-" else (None, "")
-    if why_not:
-        say(f"({why_not})")
-    return names
-
-
-def _times(path: str) -> ScriptTimes | None:
-    """The times next to the script, if there are any."""
-    return read_times(path) if path != "-" else None
-
-
-def _run_of(asked: argparse.Namespace, script: str) -> ScriptRun:
+def _run_of(asked: argparse.Namespace, source: Given) -> ScriptRun:
     """Raises CantBeAskedError if the script can't be checked for the promise."""
-    names = _names(script)
+    names = source.names()
     is_timed = names is not None and names.asks_time
     promise = ASKED[asked.promise] if asked.promise else STRICT if is_timed else None
     if promise and is_timed and not promise.is_timed and names and names.has_pauses:
@@ -169,8 +154,10 @@ def _run_of(asked: argparse.Namespace, script: str) -> ScriptRun:
             f"the script's fences enforce real-time order, which {promise.title} doesn't ask for: "
             "import it again without --strict"
         )
-    times = _times(script)
-    return ScriptRun(find_program(), asked.nodes, names, promise, times)
+    times = None if source.made else source.times()  # a file's mistakes are reported at once
+    return ScriptRun(
+        find_program(), asked.nodes, names, promise, source.times if source.made else lambda: times
+    )
 
 
 def check(asked: argparse.Namespace) -> int:
@@ -184,7 +171,7 @@ def check(asked: argparse.Namespace) -> int:
     stories: list[Story] = []
     with no_collections(), Progress(READING) as progress, given(asked, progress) as source:
         page = Page(asked.html, source.about)
-        with _run_of(asked, source.script) as run:
+        with _run_of(asked, source) as run:
             progress.doing = run.doing
             for verdict in run.verdicts(source.lines):
                 is_violated = verdict.kind == Kind.VIOLATED
@@ -214,7 +201,7 @@ def check(asked: argparse.Namespace) -> int:
 
 def explain(asked: argparse.Namespace) -> int:
     with no_collections(), Progress(READING) as progress, given(asked, progress) as source:
-        with _run_of(asked, source.script) as run:
+        with _run_of(asked, source) as run:
             progress.doing = run.doing
             for verdict in run.verdicts(source.lines):
                 if verdict.kind == Kind.VIOLATED:
@@ -232,7 +219,7 @@ def explain(asked: argparse.Namespace) -> int:
 def levels(asked: argparse.Namespace) -> int:
     with no_collections(), Progress(READING) as progress, given(asked, progress) as source:
         lines = [*source.lines]
-        names, times = _names(source.script), _times(source.script)
+        names, times = source.names(), source.times()
         found = Levels(find_program(), lines, names, times, asked.nodes, asked.shrink_seconds)
         progress.doing = found.doing
         answers = {each.promise.name: each.answer for each in found.found()}

@@ -282,7 +282,7 @@ class Holding(Protocol):
     """What is held of an audit: by an Auditor, of a script, or of a journal."""
 
     @property
-    def history(self) -> History:
+    def history(self) -> Sequence[Sequence[Logged]]:
         """For each session the transactions that aren't forgotten."""
 
     @property
@@ -298,7 +298,8 @@ def from_start(auditor: Holding) -> tuple[History, Naming]:
     """The remaining transactions as a history without a cut and without the fences' key, and their
     names. If something was forgotten, a first transaction stands for it: it writes the last version
     of each key, and every session begins with a transaction that reads from it."""
-    marks, base, history = auditor.marks, auditor.base, auditor.history
+    marks, base = auditor.marks, auditor.base
+    history = [[*session] for session in auditor.history]
     # The auditor may have names, or know the clients.
     called: AuditNaming = getattr(auditor, "called", name)
     gone, some_gone = ShownId((0, 0)), any(marks)

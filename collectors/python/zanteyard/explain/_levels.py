@@ -120,7 +120,9 @@ class Levels:
                 self._found[promise] = Level(promise, level.answer, level.why)
 
     def _by_lines(self, promise: Promise) -> Level:
-        with ScriptRun(self.program, self.most_nodes, self.names, promise, self.times) as run:
+        with ScriptRun(
+            self.program, self.most_nodes, self.names, promise, lambda: self.times
+        ) as run:
             for verdict in run.verdicts(self.lines):
                 if verdict.kind == Kind.VIOLATED:
                     break  # violated is final

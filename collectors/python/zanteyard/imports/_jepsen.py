@@ -1,18 +1,29 @@
 """Histories of Jepsen, as EDN or JSON: operations that were invoked and completed, each a list of
 micro-operations on registers or on lists."""
 
-import re
-from collections.abc import Collection, Iterator, Sequence
-from dataclasses import replace
-from typing import Any, NamedTuple
+import contextlib
+from collections.abc import Callable, Collection, Generator, Iterator, Sequence
+from functools import partial
+from typing import Any, cast
 
 from ..core.errors import ImportRefusedError
-from ._edn import EdnMap, EdnReader, Keyword
-from ._edn_lines import GROUPS, EdnLines, PlainMicros, asked_for
+from ._edn import EdnReader, Keyword
 from ._json import JsonReader
+from ._plain_lines import (
+    EDN,
+    JSON,
+    WORDS,
+    EdnLines,
+    JsonLines,
+    Micro,
+    PlainLines,
+    PlainMicros,
+)
+from ..core._processes import shared
 from ._recording import (
     ABORTED,
     APPEND,
+    BETWEEN,
     COMMITTED,
     NEVER,
     READ,
@@ -29,19 +40,17 @@ from ._recording import (
 )
 
 OUTCOMES = {"ok": COMMITTED, "fail": ABORTED, "info": UNKNOWN}
+# Characters that are read before others are shared out, and in a block for another process.
+FRONT, BLOCK = 1 << 20, 1 << 20
 
-
-class Operation(NamedTuple):
-    """One map of the file."""
-
-    line: int
-    type: str
-    process: str
-    given_index: int | None  # `index` is a method of tuples
-    time: int | None
-    part: str  # of the store, if the history is of independent ones
-    micros: Sequence[Access]  # a read that found nothing has no value, also of a list
-    unread: str = ""  # in place of `micros`: a plain line's value, whose reads found nothing
+# A map of the file: its line, type, process, index (empty if it has none), time, and part of the
+# store (if the history is of independent ones); its micro-operations, in which a read that found
+# nothing has no value, also of a list, or None if nobody has read them; and the value of a plain
+# line that asked for the same, which is empty if none is known.
+Operation = tuple[int, str, str, str, int | None, str, Sequence[Micro] | None, str]
+# As the classes themselves, in a third of the time.
+access_of = cast(Callable[[Micro], Access], partial(tuple.__new__, Access))
+attempt_of = cast(Callable[[tuple[Any, ...]], Attempt], partial(tuple.__new__, Attempt))
 
 
 def read_jepsen(
@@ -55,9 +64,12 @@ def read_jepsen(
     `is_independent` a client's value is a part of the store and a transaction there; what a process
     does in one part has then no order with what it does in another. Operations of the functions
     `left_out` are skipped, and counted. Raises ImportRefusedError."""
-    operations = _Operations(text, is_of_lists, is_independent, left_out)
-    recording = _Pairs(operations.plain).recording(operations.all(), form)
-    return replace(recording, left_out=tuple(sorted(operations.left_out.items())))
+    try:
+        return _Operations(text, is_of_lists, is_independent, left_out, False).recording(form)
+    except ImportRefusedError:
+        # What a plain line asked for may have been read after a later line: only the strict reader
+        # knows which error comes first.
+        return _Operations(text, is_of_lists, is_independent, left_out, True).recording(form)
 
 
 def _is_json(text: str) -> bool:
@@ -73,51 +85,118 @@ class _Operations:
     """The operations of clients, without those of the nemesis."""
 
     def __init__(
-        self, text: str, is_of_lists: bool, is_independent: bool, left_out: Collection[str]
+        self,
+        text: str,
+        is_of_lists: bool,
+        is_independent: bool,
+        left_out: Collection[str],
+        is_strict: bool,
     ) -> None:
-        self._text = text
-        self._is_independent = is_independent
-        self.left_out = dict.fromkeys(left_out, 0)  # how many, by function
-        self._is_of_lists = is_of_lists
+        """With `is_strict` no line is taken for plain."""
+        self._text, self._is_strict, self._is_independent = text, is_strict, is_independent
+        self._left_out = dict.fromkeys(left_out, 0)  # how many, by function
         self._is_json = _is_json(text)
-        self.plain = PlainMicros(is_of_lists)
+        self._plain = PlainMicros(JSON if self._is_json else EDN, is_of_lists)
+        self._lines: PlainLines = (JsonLines if self._is_json else EdnLines)(
+            text, self._plain, is_independent, is_strict
+        )
         self._kinds = (
             {"r": READ_LIST, "append": APPEND} if is_of_lists else {"r": READ, "w": WRITE}
         )
 
-    def all(self) -> Iterator[Operation]:
-        """The operations in the file's order."""
-        for line, found in self._maps():
-            if isinstance(found, re.Match):
-                type, process, index, time, part, value = found.group(*GROUPS)
-                can_wait = type == "invoke" and self.plain.can_wait(value)
-                micros = () if can_wait else self.plain.of(value)
-                if micros is not None:
-                    yield Operation(
-                        line,
-                        type,
-                        process,
-                        int(index) if index else None,
-                        int(time) if time else None,
-                        part,
-                        micros,
-                        value if can_wait else "",
-                    )
-                    continue
-                (found,) = EdnReader(self._text, found.start(), line).form()
-            operation = self._operation(line, found)
-            if operation is not None:
-                yield operation
+    def recording(self, form: str) -> Recording:
+        """Raises ImportRefusedError."""
+        with contextlib.closing(self._all()) as operations:
+            attempts, unused, goes_back = _Pairs(self).of(operations)
+        left_out = tuple(sorted(self._left_out.items()))
+        return Recording(form, attempts, True, unused, left_out, goes_back, self._shown)
 
-    def _maps(self) -> Iterator[tuple[int, Any]]:
-        """Each operation's line and map."""
-        if not self._is_json:
-            yield from EdnLines(self._text, self._is_independent).maps()
-            return
-        for line, value in JsonReader(self._text).elements():
-            if not isinstance(value, dict):
-                raise ImportRefusedError(line, "an operation must be an object")
-            yield line, value
+    def _all(self) -> Generator[Operation, None, None]:
+        """The operations in the file's order. Other processes read blocks of a large file."""
+        text, lines = self._text, self._lines
+        if len(text) > FRONT + BLOCK and not self._is_strict:
+            front = text.find("\n", FRONT) + 1
+            if front:
+                lines.end = front
+                yield from self._operations()
+                yield from self._shared()
+        lines.end = len(text)
+        yield from self._operations()
+
+    def _operations(self) -> Iterator[Operation]:
+        """The operations up to the end of what is being read."""
+        is_json = self._is_json
+        for line, found in self._lines.maps():
+            if not isinstance(found, tuple):
+                operation = self._operation(line, found)
+                if operation is not None:
+                    yield operation
+                continue
+            type, process, index, time, part, value = found
+            if is_json:
+                value = value.replace(", ", ",")
+            at, micros = int(time) if time else None, None
+            if type == "ok":
+                micros = self._plain_micros(value, line)
+                value = self._plain.asked_by(value, micros)
+            yield line, type, process, index, at, part, micros, value
+
+    def _shared(self) -> Iterator[Operation]:
+        """The operations in the blocks that other processes have read, as far as these began where
+        those before them ended."""
+        blocks, (at, line) = [], self._lines.place()
+        while at < len(self._text):
+            end = self._text.find("\n", at + BLOCK) + 1 or len(self._text)
+            blocks.append((at, line, end))
+            at, line = end, line + self._text.count("\n", at, end)
+        for block, found in zip(blocks, shared(self._block, blocks)):
+            if found is None:
+                return
+            operations, left_out, place = found
+            yield from operations
+            for name, count in left_out.items():
+                self._left_out[name] += count
+            at, line = place
+            self._lines.go_on(at, line, len(self._text))
+            if at != block[2]:
+                return
+
+    def _block(self, block: tuple[int, int, int]) -> Any:
+        """What is in a block, and where it ended; None if that needs the file's beginning."""
+        lines, self._left_out = self._lines, dict.fromkeys(self._left_out, 0)
+        within = lines.is_within()
+        lines.go_on(*block)
+        try:
+            operations = [*self._operations()]
+        except ImportRefusedError:
+            return None
+        if lines.is_within() != within:
+            return None
+        return operations, self._left_out, lines.place()
+
+    def _plain_micros(self, value: str, line: int) -> Sequence[Micro]:
+        """The micro-operations of a plain line's value. Raises ImportRefusedError."""
+        micros = self._plain.of(value)
+        if micros is not None:
+            return micros
+        if self._is_json:
+            _, found = JsonReader(value, 0, line).value()
+        else:
+            (found,) = EdnReader(value, 0, line).form()
+        return [*self._micros(found, line)]
+
+    def micros(self, operation: Operation) -> Sequence[Micro]:
+        """What the operation did, or asked for. Raises ImportRefusedError."""
+        line, _, _, _, _, _, micros, value = operation
+        return self._plain_micros(value, line) if micros is None else micros
+
+    def has_asked(self, asked: Operation, done: Operation) -> bool:
+        """Whether it is certain that these are one operation."""
+        _, _, _, _, _, part, _, value = asked
+        _, _, _, _, _, same, micros, other = done
+        return part == same and value != "" and (
+            value == other or micros is not None and value == self._plain.asked(micros)
+        )
 
     def _operation(self, line: int, found: Any) -> Operation | None:
         """The operation in a map; None for one of the nemesis."""
@@ -130,8 +209,8 @@ class _Operations:
         if type not in ("invoke", *OUTCOMES):
             raise ImportRefusedError(line, "the type must be invoke, ok, fail or info")
         function = _word(found.get("f"))
-        if function in self.left_out:
-            self.left_out[function] += type == "invoke"
+        if function in self._left_out:
+            self._left_out[function] += type == "invoke"
             return None
         if function != "txn":
             raise ImportRefusedError(
@@ -148,9 +227,9 @@ class _Operations:
             part, value = token(value[0], line, "a part"), value[1]
             has_none = value is None and type in ("fail", "info")
         micros = [] if has_none else [*self._micros(value, line)]
-        return Operation(line, type, str(process), index, time, part, micros)
+        return line, type, str(process), "" if index is None else str(index), time, part, micros, ""
 
-    def _micros(self, value: object, line: int) -> Iterator[Access]:
+    def _micros(self, value: object, line: int) -> Iterator[Micro]:
         if not isinstance(value, (tuple, list)):
             raise ImportRefusedError(line, "the value of a txn must be a list of micro-operations")
         for micro in value:
@@ -171,16 +250,18 @@ class _Operations:
                 content = optional_token(micro[2], line, "a value")
             else:
                 content = token(micro[2], line, "a written value")
-            yield Access(kind, key, content, self._text_of(function, key, content))
+            yield kind, key, content, ""
 
-    def _text_of(self, function: str, key: str, value: Value) -> str:
+    def _shown(self, access: Access) -> str:
         """As the file has it."""
+        kind, key, value, _ = access
         between = ", " if self._is_json else " "
-        shown = value if isinstance(value, str) else "null" if self._is_json else "nil"
-        if isinstance(value, tuple):
-            shown = f"[{between.join(value)}]"
-        first = f'"{function}"' if self._is_json else f":{function}"
-        return f"[{between.join((first, key, shown))}]"
+        if value is None:
+            value = self._plain.syntax.nil
+        elif kind == READ_LIST:
+            value = f"[{value.replace(BETWEEN, between)}]"
+        first = f'"{WORDS[kind]}"' if self._is_json else f":{WORDS[kind]}"
+        return f"[{first}{between}{key}{between}{value}]"
 
 
 def _whole(value: object, name: str, line: int) -> int | None:
@@ -189,124 +270,110 @@ def _whole(value: object, name: str, line: int) -> int | None:
     raise ImportRefusedError(line, f"the {name} must be a whole number")
 
 
-def _elements(value: object, line: int) -> tuple[str, ...] | None:
+def _elements(value: object, line: int) -> Value:
     if value is None:
         return None
     if not isinstance(value, (tuple, list)):
         raise ImportRefusedError(line, "a read must return a list or nil")
-    return tuple(token(element, line, "a list element") for element in value)
+    return BETWEEN.join(token(element, line, "a list element") for element in value)
 
 
 class _Pairs:
     """Matches invocations with their completions. What a plain line asked for is read only if its
     completion doesn't say the same."""
 
-    def __init__(self, plain: PlainMicros) -> None:
-        self._plain = plain
-        self._attempts: list[Attempt] = []  # without names
+    def __init__(self, operations: _Operations) -> None:
+        self._operations = operations
+        self._attempts: list[Attempt] = []
+        self._indexes: list[str] = []  # of each attempt
         self._open: dict[str, tuple[int, Operation, int]] = {}  # of each process
         self._unused = 0
 
-    def recording(self, operations: Iterator[Operation], form: str) -> Recording:
-        """Raises ImportRefusedError."""
-        last_line, goes_back = 0, 0
-        latest: int | None = None
+    def of(self, operations: Iterator[Operation]) -> tuple[tuple[Attempt, ...], int, int]:
+        """The attempts, how many reads aren't used, and the line at which the time goes back, 0 if
+        it never does. Raises ImportRefusedError."""
+        goes_back, latest = 0, None
+        open_, attempts = self._open, self._attempts
+        until = attempt_of(("", "", UNKNOWN, (), 0, "", 0, 0, None, None))  # until it ends
         for place, operation in enumerate(operations, 1):
-            last_line = max(last_line, operation.line)
-            if operation.time is not None:
-                if latest is not None and operation.time < latest:
-                    goes_back = goes_back or operation.line
-                latest = operation.time
-            if operation.type == "invoke":
-                self._invoke(operation, place)
-            else:
+            line, type, process, _, time, _, _, _ = operation
+            if time is not None:
+                if latest is not None and time < latest:
+                    goes_back = goes_back or line
+                latest = time
+            if type != "invoke":
                 self._complete(operation, place)
-        for process in [*self._open]:
-            _, invoked, _ = self._open[process]
-            self._complete(invoked._replace(type="info", unread=""), NEVER)
-        if not self._attempts:
-            raise ImportRefusedError(max(1, last_line), "the file has no client operation")
-        return Recording(
-            form, tuple(self._named()), True, self._unused, time_goes_back=goes_back
-        )
+            elif process in open_:
+                before = open_[process][1][0]
+                raise ImportRefusedError(
+                    line,
+                    f"process {process} already has an operation in flight, from line {before}",
+                )
+            else:
+                open_[process] = (len(attempts), operation, place)
+                attempts.append(until)
+                self._indexes.append("")
+        for _, (line, _, process, index, time, part, micros, value), _ in [*open_.values()]:
+            self._complete((line, "info", process, index, time, part, micros, value), NEVER)
+        if not attempts:
+            raise ImportRefusedError(1, "the file has no client operation")
+        return tuple(self._named()), self._unused, goes_back
 
     def _named(self) -> Iterator[Attempt]:
         """Names attempts by their lines, or by their indexes or places if several are on one
         line."""
-        lines = {attempt.line for attempt in self._attempts}
-        for attempt in self._attempts:
-            if len(lines) == len(self._attempts):
-                yield Attempt(f"line {attempt.line}", *attempt[1:])
-            else:
-                yield attempt._replace(where=f"line {attempt.line}, {attempt.where}")
-
-    def _invoke(self, operation: Operation, place: int) -> None:
-        if operation.process in self._open:
-            line = self._open[operation.process][1].line
-            raise ImportRefusedError(
-                operation.line,
-                f"process {operation.process} already has an operation in flight, from line {line}",
-            )
-        self._open[operation.process] = (len(self._attempts), operation, place)
-        self._attempts.append(Attempt("", "", UNKNOWN, (), operation.line))  # until it ends
+        if len({attempt.line for attempt in self._attempts}) == len(self._attempts):
+            yield from self._attempts
+            return
+        for it, index in zip(self._attempts, self._indexes):
+            number = it.ended if it.outcome == COMMITTED else it.began
+            name = f"op {index}" if index else f"operation {number}"
+            yield it._replace(name=name, where=f"line {it.line}, {it.where}")
 
     def _complete(self, operation: Operation, place: int) -> None:
-        if operation.process not in self._open:
+        line, type, process, index, time, _, _, _ = operation
+        opened = self._open.pop(process, None)
+        if opened is None:
             raise ImportRefusedError(
-                operation.line, f"process {operation.process} completes an operation that it "
-                "didn't invoke"
+                line, f"process {process} completes an operation that it didn't invoke"
             )
-        at, invoked, began = self._open.pop(operation.process)
-        outcome = OUTCOMES[operation.type]
-        is_checked = outcome == COMMITTED or len(operation.micros) > 0
-        if invoked.unread and not (
-            outcome == COMMITTED
-            and invoked.part == operation.part
-            and invoked.unread == asked_for(operation.micros)
-        ):
-            invoked = invoked._replace(micros=self._plain.of(invoked.unread) or (), unread="")
-        if is_checked and not invoked.unread:
-            _check_same(invoked, operation)
-        done = operation if outcome == COMMITTED else invoked
-        if outcome == COMMITTED:
-            accesses = tuple([
-                Access(READ_LIST, it.key, (), it.text) if it.value is None and it.kind == READ_LIST
-                else it
-                for it in done.micros
-            ])
+        at, invoked, began = opened
+        began_line, _, _, began_index, began_at, part, _, _ = invoked
+        operations = self._operations
+        micros = operations.micros(operation)
+        if type == "ok":
+            if not operations.has_asked(invoked, operation):
+                _check_same(invoked, operations.micros(invoked), operation, micros)
         else:
-            accesses = tuple(it for it in done.micros if it.kind not in READS)
+            asked = operations.micros(invoked)
+            if micros:
+                _check_same(invoked, asked, operation, micros)
             self._unused += sum(
-                it.kind in READS and it.value is not None for it in operation.micros
+                kind in READS and value is not None for kind, _, value, _ in micros
             )
-        client, where = operation.process, f"process {operation.process}"
-        if invoked.part:  # its keys and its sessions are its own
-            client, where = f"{client} in {invoked.part}", f"{where} in part {invoked.part}"
-            accesses = tuple(it._replace(key=f"{it.key} in {invoked.part}") for it in accesses)
-        number = place if outcome == COMMITTED else began
-        self._attempts[at] = Attempt(
-            f"operation {number}" if done.given_index is None else f"op {done.given_index}",
-            client,
-            outcome,
-            accesses,
-            done.line,
-            where if done.given_index is None else f"{where}, index {done.given_index}",
-            began,
-            NEVER if outcome == UNKNOWN else place,
-            invoked.time,
-            None if outcome == UNKNOWN else operation.time,
-        )
+            micros = [micro for micro in asked if micro[0] not in READS]
+            line, index = began_line, began_index
+        where = f"process {process}"
+        if part:  # its keys and its sessions are its own
+            where, process = f"{where} in part {part}", f"{process} in {part}"
+            micros = [(kind, f"{key} in {part}", value, "") for kind, key, value, _ in micros]
+        outcome, self._indexes[at] = OUTCOMES[type], index
+        ended, ended_at = (NEVER, None) if outcome == UNKNOWN else (place, time)
+        self._attempts[at] = attempt_of((
+            f"line {line}", process, outcome, tuple(map(access_of, micros)), line,
+            f"{where}, index {index}" if index else where, began, ended, began_at, ended_at,
+        ))
 
 
-def _check_same(invoked: Operation, completed: Operation) -> None:
+def _check_same(
+    invoked: Operation, asked: Sequence[Micro], completed: Operation, done: Sequence[Micro]
+) -> None:
     """Checks that a completion has the invocation's micro-operations, except for what was read."""
-    is_same = len(invoked.micros) == len(completed.micros) and invoked.part == completed.part
-    if is_same:
-        for asked, done in zip(invoked.micros, completed.micros):
-            is_same &= asked[:2] == done[:2] and (asked[2] == done[2] or asked[0] in READS)
+    is_same = len(asked) == len(done) and invoked[5] == completed[5]
+    for one, other in zip(asked, done):
+        is_same &= one[:2] == other[:2] and (one[2] == other[2] or one[0] in READS)
     if not is_same:
         raise ImportRefusedError(
-            completed.line,
-            f"this isn't the operation that process {completed.process} invoked on line "
-            f"{invoked.line}",
+            completed[0],
+            f"this isn't the operation that process {completed[2]} invoked on line {invoked[0]}",
         )

@@ -28,10 +28,11 @@ class JsonReader:
     """Reads the values of a text, each with the line on which it begins, from 1. Raises
     ImportRefusedError, with the line, for what isn't JSON."""
 
-    def __init__(self, text: str) -> None:
+    def __init__(self, text: str, at: int = 0, line: int = 1) -> None:
+        """Reads on from that place of the text, which is on that line."""
         self._text = text
-        self._at = 0
-        self._line, self._counted = 1, 0
+        self._at = at
+        self._line, self._counted = line, at  # the line of the place up to which lines were counted
 
     def elements(self) -> Iterator[tuple[int, Any]]:
         """The elements of the text's array; or, if it is none, its values, one after another."""
@@ -53,8 +54,13 @@ class JsonReader:
             raise self._refused("text after the array")
 
     def is_over(self) -> bool:
-        """Whether the end of the text is reached."""
+        """Whether no value is left. Skips the spaces before the next one."""
+        self._skip()
         return self._at >= len(self._text)
+
+    def place(self) -> tuple[int, int]:
+        """How far it has read, and on which line that is."""
+        return self._at, self._line_here()
 
     def value(self) -> tuple[int, Any]:
         """The next value."""

@@ -2,7 +2,9 @@
 each read came from."""
 
 import json
-from dataclasses import dataclass
+from collections.abc import Callable
+from dataclasses import dataclass, field
+from operator import attrgetter
 from typing import NamedTuple
 
 from ..core.errors import ImportRefusedError
@@ -13,17 +15,19 @@ READ, WRITE, APPEND, READ_LIST = "read", "write", "append", "read-list"
 READS = (READ, READ_LIST)
 NEVER = 1 << 62  # the place of an end that isn't in the file
 
-Value = str | tuple[str, ...] | None
+BETWEEN = "\n"  # the elements of a list; in none of them
+
+Value = str | None
 
 
 class Access(NamedTuple):
     """One read or write, in the client's order. `value` is a text that distinguishes values; None
-    if a read found the initial state; for a list, its elements."""
+    if a read found the initial state; for a list, the texts of its elements with BETWEEN."""
 
     kind: str  # READ, WRITE, APPEND or READ_LIST
     key: str
     value: Value
-    text: str  # as in the file
+    text: str = ""  # as in the file, unless the recording's `shown` makes it
 
 
 class Attempt(NamedTuple):
@@ -54,6 +58,8 @@ class Recording:
     unused: int = 0
     left_out: tuple[tuple[str, int], ...] = ()  # functions that were skipped, each with a count
     time_goes_back: int = 0  # the line at which it does; 0 if it never does
+    # An access as in the file.
+    shown: Callable[[Access], str] = field(default=attrgetter("text"), compare=False)
 
 
 def counted(count: int, what: str) -> str:

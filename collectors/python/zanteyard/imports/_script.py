@@ -1,18 +1,28 @@
 """Turns a recording whose sources are known into a script: which transactions are offered, in which
 sessions, with which numbers, and their names."""
 
-import json
-from collections.abc import Iterator
+from collections.abc import Iterator, Sequence
 from typing import Any
 
 from ..core._own_keys import FORM, LARGE_FORM
 from ..core._records import AuditId
 from ..core.errors import ImportRefusedError
-from ..scripts._names import PART, REST, NamedTransaction, ScriptNames
+from ..scripts._names import PART, REST, LazyNames, NamedTransaction, ScriptNames
 from ..scripts._times import ScriptTimes
 from ..promises._asking import LIMIT, MOST, MOST_SESSIONS, SESSIONS
-from ._recording import ABORTED, COMMITTED, UNKNOWN, Recording, counted
+from ._recording import (
+    ABORTED,
+    APPEND,
+    BETWEEN,
+    COMMITTED,
+    UNKNOWN,
+    WRITE,
+    Access,
+    Recording,
+    counted,
+)
 from ._script_parts import (
+    BEFORE,
     LONGEST,
     Fence,
     Imported,
@@ -20,15 +30,17 @@ from ._script_parts import (
     Plan,
     all_before,
     ascending,
+    in_text,
+    keys_of,
     named_stub,
     offers,
     written_by,
 )
-from ._sources import Absent, Origin, Sources, Stub
+from ._sources import Absent, Origin, Shown, Sources, Stub
 from ._times import EVERY, Times, check_times, part_of, times_of
 
 NEVER_OFFERED = 1_000_000_000  # numbers from here on are those of transactions that never arrive
-ROUND = ["round", 4096, 0, 1, "guided"]
+ROUND, TRUNCATE = '["round",4096,0,1,"guided"]', '["truncate"]'
 
 
 def script_of(
@@ -50,7 +62,8 @@ class _ScriptMaker:
     ) -> None:
         self._recording = recording
         self._attempts = recording.attempts
-        self._of = Sources(recording).of
+        sources = Sources(recording)
+        self._of, self._stubs_read = sources.of, sources.stubs
         self._is_part = first is not None and first < len(self._attempts)
         self._kept = self._front(first) if first is not None else set(range(len(self._attempts)))
         self._times = Times(self._attempts, self._of) if asks_time else None  # of the whole file
@@ -77,26 +90,22 @@ class _ScriptMaker:
             self._pauses = self._times.pauses(self._every)
         self._put_fences()
         self._places = self._plan.places()
-        offered = [
-            [self._offered(item) for item in items] for items in self._plan.sessions
-        ]
+        offered = [[*self._offered(items)] for items in self._plan.sessions]
+        items: list[list[Item | None]] = [[*session] for session in self._plan.sessions]
         if self._is_part:
             offered[0].append(self._rest())
-        lines = self._lines(
-            [[transaction for transaction, _ in transactions] for transactions in offered]
-        )
+            items[0].append(None)
+        lines = tuple(self._lines(offered))
         names = ScriptNames(
             self._recording.form,
             {number: key for key, number in self._keys.items()},
-            [[named for _, named in transactions] for transactions in offered],
+            [LazyNames(session, self._named, self._name_of) for session in items],
             self._absent_names,
             self._times is not None,
             tuple(sorted(self._plan.by_time)),
             bool(self._pauses),
         )
-        encode = json.JSONEncoder(separators=(",", ":")).encode
-        texts = tuple(map(encode, lines))
-        return Imported(texts, names, tuple(self._about()), self._script_times())
+        return Imported(lines, names, tuple(self._about()), self._script_times)
 
     def _script_times(self) -> ScriptTimes | None:
         if not self._recording.has_times or self._recording.time_goes_back:
@@ -104,17 +113,20 @@ class _ScriptMaker:
         ids = {item: id for item, id in self._places.items() if isinstance(item, int)}
         return times_of(self._recording, ids)
 
-    def _lines(self, offered: list[list[Any]]) -> Iterator[list[Any]]:
+    def _lines(self, offered: list[list[str]]) -> Iterator[str]:
         """The lines of the script, of the lowest version that has room for them. If not everything
         fits, there is a round at each pause, after which what is settled is forgotten; otherwise
         one round at the end."""
         count = sum(map(len, offered))
         if count > MOST and not self._pauses:
             raise ImportRefusedError(0, self._too_many(count))
-        tells_aborted = any(txn[2:] for transactions in offered for txn in transactions)
+        tells_aborted = any(
+            stub.kind == ABORTED and self._is_told(stub)
+            for stub in self._places if isinstance(stub, Stub)
+        )
         is_large = count > LIMIT or len(offered) > SESSIONS
-        form = [LARGE_FORM] if is_large else [FORM] if tells_aborted else []
-        yield ["open", len(offered), min(MOST, count), *form]
+        form = f",{LARGE_FORM}" if is_large else f",{FORM}" if tells_aborted else ""
+        yield f'["open",{len(offered)},{min(MOST, count)}{form}]'
         given = [0] * len(offered)
         for pause, fences in enumerate(self._plan.fences):
             ends = {fence.session: self._places[fence][1] + 1 for fence in fences}
@@ -125,10 +137,10 @@ class _ScriptMaker:
                 given[session] = end
             for session in {fence.session for fence in fences if fence.is_first}:
                 if given[session] == len(offered[session]):
-                    yield ["close", session]
+                    yield f'["close",{session}]'
             if count > MOST:
                 yield ROUND
-                yield ["truncate"]
+                yield TRUNCATE
         if count > MOST:
             self._check_room(count - sum(given), len(self._pauses))
         for session, transactions in enumerate(offered):
@@ -270,13 +282,11 @@ class _ScriptMaker:
     def _stubs(self) -> dict[int, list[Stub]]:
         """The sources of reads that can't be real, by owner."""
         stubs_of: dict[int, list[Stub]] = {}
-        for at in self._of:
-            if at in self._kept:
-                for _, origin in self._of[at].reads:
-                    if isinstance(origin, Stub) and origin.owner in self._kept:
-                        stubs = stubs_of.setdefault(origin.owner, [])
-                        if origin not in stubs:
-                            stubs.append(origin)
+        for at, stub in self._stubs_read:
+            if at in self._kept and stub.owner in self._kept:
+                stubs = stubs_of.setdefault(stub.owner, [])
+                if stub not in stubs:
+                    stubs.append(stub)
         return stubs_of
 
     def _known_before(self) -> dict[Item, list[Item]]:
@@ -288,61 +298,106 @@ class _ScriptMaker:
                 before.setdefault(following, []).append(first)
         for at in self._of:
             if at in self._kept:
-                for _, origin in self._of[at].reads:
+                for _, origin in self._of[at]:
                     if isinstance(origin, int):
                         before.setdefault(at, []).append(origin)
         return before
 
-    def _offered(self, item: Item) -> tuple[list[Any], NamedTransaction]:
-        """A transaction as in a line, and its name."""
-        if isinstance(item, Stub):
-            return self._stub(item)
+    def _offered(self, items: Sequence[Item]) -> Iterator[str]:
+        """Transactions of a session as in a line."""
+        keys, places, of, attempts = self._keys, self._places, self._of, self._attempts
+        for item in items:
+            if not isinstance(item, int):
+                yield self._stub(item) if isinstance(item, Stub) else self._fence(item)
+                continue
+            reads: list[tuple[int, int, int]] = []
+            for key, origin in of[item]:
+                number = keys.get(key) or self._key(key)
+                source = places.get(origin) if isinstance(origin, int) else None
+                reads.append((number, *(source or self._source(origin))))
+            reads.sort()
+            writes = {
+                keys.get(key) or self._key(key)
+                for kind, key, _, _ in attempts[item].accesses if kind == APPEND or kind == WRITE
+            }
+            if len(reads) > LONGEST or len(writes) > LONGEST:
+                raise ImportRefusedError(
+                    attempts[item].line,
+                    f"a transaction can have at most {LONGEST} reads and {LONGEST} writes",
+                )
+            yield f"[[{in_text(reads)}],[{','.join(map(str, sorted(writes)))}]]"
+
+    def _named(self, items: Sequence[Item | None]) -> Iterator[NamedTransaction]:
+        """The names of these transactions; None stands for the rest of the file."""
+        keys, places, shown = self._keys, self._places, self._recording.shown
+        for item in items:
+            if not isinstance(item, int):
+                yield self._other_name(item)
+                continue
+            name, _, outcome, accesses, _, where, *_ = self._attempts[item]
+            texts: list[tuple[Sequence[Any], str]] = []
+            for (key, origin), deed in self._of[item].items():
+                source = places.get(origin) if isinstance(origin, int) else None
+                session, number = source or self._source(origin)
+                text = shown(deed) if isinstance(deed, Access) else self._shown(deed)
+                texts.append((
+                    (keys[key], session, number) if number >= 0 else (keys[key], "init"), text
+                ))
+            if len(texts) > 1:
+                texts.sort(key=ascending)
+            written = [it for it in accesses if it[0] == APPEND or it[0] == WRITE]
+            if len(written) == 1:
+                texts.append(((keys[written[0][1]],), shown(written[0])))
+            elif written:
+                texts += self._writes(item)
+            yield NamedTransaction(name, outcome, tuple(texts), where)
+
+    def _name_of(self, item: Item | None) -> str:
+        return self._attempts[item].name if isinstance(item, int) else self._other_name(item).name
+
+    def _other_name(self, item: Stub | Fence | None) -> NamedTransaction:
+        if item is None:
+            return NamedTransaction(PART, COMMITTED)
         if isinstance(item, Fence):
-            return self._fence(item), NamedTransaction(item.name(), COMMITTED)
-        attempt, sourced = self._attempts[item], self._of[item]
-        if len(sourced.reads) > LONGEST or len(sourced.writes) > LONGEST:
-            raise ImportRefusedError(
-                attempt.line, f"a transaction can have at most {LONGEST} reads and {LONGEST} writes"
-            )
-        keys = self._keys
-        reads = {
-            (keys.setdefault(key, len(keys) + 1), *self._source(origin)): text
-            for (key, origin), text in sourced.reads.items()
-        }
-        writes = {
-            keys.setdefault(key, len(keys) + 1): text for key, text in sourced.writes.items()
-        }
-        texts = [([*read], text) for read, text in sorted(reads.items(), key=ascending)]
-        texts += [([key], text) for key, text in sorted(writes.items())]
-        offered = [[read for read, _ in texts[: len(reads)]], sorted(writes)]
-        return offered, NamedTransaction(
-            attempt.name, attempt.outcome, tuple(texts), attempt.where
-        )
+            return NamedTransaction(item.name(), COMMITTED)
+        named = named_stub(item, self._attempts)
+        return named._replace(texts=self._writes(item.owner)) if self._is_told(item) else named
 
-    def _stub(self, stub: Stub) -> tuple[list[Any], NamedTransaction]:
+    def _writes(self, at: int) -> tuple[tuple[Sequence[Any], str], ...]:
+        """The keys that an attempt wrote, each with the file's text of its writes."""
+        texts = written_by(self._attempts[at], self._recording.shown)
+        return tuple(sorted(((self._keys[key],), text) for key, text in texts.items()))
+
+    def _shown(self, deed: Shown) -> str:
+        """How another attempt's list shows a read."""
+        elements, reader = deed.elements.replace(BETWEEN, " "), self._attempts[deed.reader].name
+        return f"appended {elements} after that, as {reader} read"
+
+    def _is_told(self, stub: Stub) -> bool:
+        """Whether the script has what the stub's owner wrote: it is an aborted attempt."""
+        return stub.kind == ABORTED and 0 < len({*keys_of(self._attempts[stub.owner])}) <= LONGEST
+
+    def _stub(self, stub: Stub) -> str:
         """A stub as in a line, with the keys that it wrote if it is an aborted attempt."""
-        named = named_stub(stub, self._attempts)
-        written = written_by(self._attempts[stub.owner]) if stub.kind == ABORTED else {}
-        if not written or len(written) > LONGEST:
-            return [[], []], named
-        texts = sorted((self._key(key), text) for key, text in written.items())
-        named = named._replace(texts=tuple(([key], text) for key, text in texts))
-        return [[], [key for key, _ in texts], ABORTED], named
+        if not self._is_told(stub):
+            return "[[],[]]"
+        keys = sorted({self._key(key) for key in keys_of(self._attempts[stub.owner])})
+        return f'[[],[{",".join(map(str, keys))}],"{ABORTED}"]'
 
-    def _fence(self, fence: Fence) -> list[Any]:
+    def _fence(self, fence: Fence) -> str:
         """A fence as in a line. It reads from the previous fence, whichever session that is in."""
         row = [fence for fences in self._plan.fences for fence in fences]
         at = row.index(fence)
-        source = self._places[row[at - 1]] if at else ("init",)
-        return [[[0, *source]], [0]]
+        source = self._places[row[at - 1]] if at else BEFORE
+        return f"[[{in_text([(0, *source)])}],[0]]"
 
     def _key(self, key: str) -> int:
         return self._keys.setdefault(key, len(self._keys) + 1)
 
-    def _source(self, origin: Origin) -> tuple[Any, ...]:
-        """A source as in a read."""
+    def _source(self, origin: Origin) -> tuple[int, int]:
+        """A source as in a read; BEFORE for the initial state."""
         if origin is None:
-            return ("init",)
+            return BEFORE
         place = None if isinstance(origin, Absent) else self._places.get(origin)
         if place is not None:
             return place
@@ -363,11 +418,10 @@ class _ScriptMaker:
         self._absent_names[id] = name
         return id
 
-    def _rest(self) -> tuple[list[Any], NamedTransaction]:
+    def _rest(self) -> str:
         """A transaction that keeps the verdict pending because of what wasn't imported."""
         source = self._never_offered(REST, "the rest of the file")
-        read = [self._key(REST), *source]
-        return [[read], []], NamedTransaction(PART, COMMITTED)
+        return f"[[{in_text([(self._key(REST), *source)])}],[]]"
 
     def _about(self) -> Iterator[str]:
         """Sentences about what was done with the file."""

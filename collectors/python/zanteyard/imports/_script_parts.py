@@ -1,16 +1,18 @@
 """The parts of a recording's script: items in sessions, fences, lines, and names."""
 
-from collections.abc import Iterator, Sequence
+import functools
+from collections.abc import Callable, Iterator, Sequence
 from dataclasses import dataclass, field
 from typing import Any
 
 from ..core._records import AuditId
 from ..scripts._names import NamedTransaction, ScriptNames
 from ..scripts._times import ScriptTimes
-from ._recording import ABORTED, APPEND, WRITE, Attempt
+from ._recording import ABORTED, APPEND, WRITE, Access, Attempt
 from ._sources import DRAFT, Stub
 
 LONGEST = 256  # transactions of a line, and reads or writes of a transaction
+BEFORE = (-1, -1)  # the source of reads of the initial state, which come before a key's other ones
 
 
 @dataclass(frozen=True)
@@ -36,7 +38,12 @@ class Imported:
     lines: tuple[str, ...]
     names: ScriptNames
     about: tuple[str, ...]
-    times: ScriptTimes | None = None  # if the file says when its transactions ran
+    make_times: Callable[[], ScriptTimes | None] = field(default=lambda: None, compare=False)
+
+    @functools.cached_property
+    def times(self) -> ScriptTimes | None:
+        """The transactions' times; None if the file doesn't say when they ran."""
+        return self.make_times()
 
 
 @dataclass
@@ -57,6 +64,14 @@ class Plan:
         }
 
 
+def in_text(reads: Sequence[tuple[int, int, int]]) -> str:
+    """Keys and their sources, as in a line: BEFORE for the initial state."""
+    return ",".join([
+        f"[{key},{session},{number}]" if number >= 0 else f'[{key},"init"]'
+        for key, session, number in reads
+    ])
+
+
 def ascending(named_read: tuple[Sequence[Any], str]) -> tuple[int, ...]:
     key, *source = named_read[0]
     return (key, -1, -1) if source[0] == "init" else (key, *source)
@@ -74,18 +89,23 @@ def all_before(before: dict[Item, list[Item]], end: Item) -> set[Item]:
     return seen
 
 
-def offers(session: int, first: int, transactions: list[Any]) -> Iterator[list[Any]]:
+def offers(session: int, first: int, transactions: Sequence[str]) -> Iterator[str]:
     """The lines that offer a session's transactions from this number on."""
     for start in range(first, len(transactions), LONGEST):
-        yield ["offer", session, start, transactions[start : start + LONGEST]]
+        yield f'["offer",{session},{start},[{",".join(transactions[start : start + LONGEST])}]]'
 
 
-def written_by(attempt: Attempt) -> dict[str, str]:
+def keys_of(attempt: Attempt) -> list[str]:
+    """The keys that it wrote."""
+    return [key for kind, key, _, _ in attempt.accesses if kind == APPEND or kind == WRITE]
+
+
+def written_by(attempt: Attempt, shown: Callable[[Access], str]) -> dict[str, str]:
     """For each key that it wrote, the file's text of the writes."""
     texts_of: dict[str, list[str]] = {}
     for access in attempt.accesses:
         if access.kind in (WRITE, APPEND):
-            texts_of.setdefault(access.key, []).append(access.text)
+            texts_of.setdefault(access.key, []).append(shown(access))
     return {key: " ".join(texts) for key, texts in texts_of.items()}
 
 

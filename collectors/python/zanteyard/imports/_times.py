@@ -9,7 +9,7 @@ from ..core.errors import ImportRefusedError
 from ..scripts._times import ScriptTimes
 from ..promises._asking import MOST
 from ._recording import NEVER, Attempt, Recording
-from ._sources import Sourced
+from ._sources import Reads
 
 EVERY = MOST // 8  # transactions between two pauses, at least
 
@@ -47,17 +47,17 @@ class Times:
     """When the offered transactions began, and by when they had taken effect, as places in the
     file."""
 
-    def __init__(self, attempts: Sequence[Attempt], of: Mapping[int, Sourced]) -> None:
+    def __init__(self, attempts: Sequence[Attempt], of: Mapping[int, Reads]) -> None:
         self.began = {at: attempts[at].began for at in of}
         self.ended = {at: attempts[at].ended for at in of}
         self._bound(of)
 
-    def _bound(self, of: Mapping[int, Sourced]) -> None:
+    def _bound(self, of: Mapping[int, Reads]) -> None:
         """Bounds the ends: a source had taken effect before its reader did, so an attempt of
         unknown outcome had taken effect by the end of each attempt that read from it."""
         readers: dict[int, list[int]] = {}
-        for at, sourced in of.items():
-            for _, origin in sourced.reads:
+        for at, reads in of.items():
+            for _, origin in reads:
                 if isinstance(origin, int) and origin in of:
                     readers.setdefault(origin, []).append(at)
         waiting = [*of]
@@ -68,7 +68,7 @@ class Times:
             )
             if soonest < self.ended[at]:
                 self.ended[at] = soonest
-                waiting += [origin for _, origin in of[at].reads
+                waiting += [origin for _, origin in of[at]
                             if isinstance(origin, int) and origin in of]
 
     def pauses(self, every: int = EVERY) -> list[int]:

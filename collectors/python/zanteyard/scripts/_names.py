@@ -5,17 +5,19 @@ was made for."""
 import hashlib
 import json
 import os
-from collections.abc import Mapping, Sequence
+from collections.abc import Callable, Iterable, Iterator, Mapping, Sequence
 from dataclasses import dataclass, field
-from typing import Any, NamedTuple
+from typing import Any, Generic, NamedTuple, TypeVar, overload
 
 from ..core._private_files import private
+from ..core._processes import shared_all
 from ..core._records import AuditId
 
 NAMES = ".names"
 # For a partial import: the transaction that waits for the rest, and what it reads.
 PART, REST = "this part of the file", "the rest of the file"
 VERSION = 1
+PIECE = 2048  # transactions whose names a process writes at a time
 
 
 class NamedTransaction(NamedTuple):
@@ -26,6 +28,46 @@ class NamedTransaction(NamedTuple):
     outcome: str
     texts: tuple[tuple[Sequence[Any], str], ...] = ()
     where: str = ""  # what else the original file calls it
+
+
+Item = TypeVar("Item")
+
+
+class LazyNames(Sequence[NamedTransaction], Generic[Item]):
+    """The named transactions of a session, each of which is made when it is wanted."""
+
+    def __init__(
+        self,
+        items: Sequence[Item],
+        make: Callable[[Sequence[Item]], Iterator[NamedTransaction]],
+        call: Callable[[Item], str],
+    ) -> None:
+        """`make` makes the named transactions of these items, `call` the name alone."""
+        self._items, self._make, self._call = items, make, call
+
+    def name(self, at: int) -> str:
+        """The transaction's name."""
+        return self._call(self._items[at])
+
+    @overload
+    def __getitem__(self, at: int) -> NamedTransaction: ...
+
+    @overload
+    def __getitem__(self, at: slice) -> "LazyNames[Item]": ...
+
+    def __getitem__(self, at: int | slice) -> "NamedTransaction | LazyNames[Item]":
+        if isinstance(at, slice):
+            return LazyNames(self._items[at], self._make, self._call)
+        return next(self._make([self._items[at]]))
+
+    def __iter__(self) -> Iterator[NamedTransaction]:
+        return self._make(self._items)
+
+    def __len__(self) -> int:
+        return len(self._items)
+
+    def __eq__(self, other: object) -> bool:
+        return isinstance(other, Sequence) and [*self] == [*other]
 
 
 @dataclass(frozen=True)
@@ -45,7 +87,8 @@ class ScriptNames:
         """The transaction's name."""
         session, number = id
         if session < len(self.transactions) and number < len(self.transactions[session]):
-            return self.transactions[session][number].name
+            names = self.transactions[session]
+            return names.name(number) if isinstance(names, LazyNames) else names[number].name
         return self.absent.get(id, f"{session}.{number}")
 
     def key(self, number: int) -> str:
@@ -71,12 +114,24 @@ def write_names(names: ScriptNames, script: str) -> str:
         "has_pauses": names.has_pauses,
         "keys": [[number, key] for number, key in sorted(names.keys.items())],
         "absent": [[*id, name] for id, name in sorted(names.absent.items())],
-        "transactions": names.transactions,
     }
-    text = json.dumps(whole, separators=(",", ":"))  # `dump` to a file takes five times as long
+    text = _text_of(whole)
     with open(script + NAMES, "w", encoding="utf-8", opener=private) as file:
-        file.write(f"{text}\n")
+        file.write(f'{text[:-1]},"transactions":[')
+        for number, session in enumerate(names.transactions):
+            pieces = [session[at : at + PIECE] for at in range(0, len(session), PIECE)]
+            texts = ",".join(shared_all(_text_in_list, pieces))
+            file.write(f"{',' if number else ''}[{texts}]")
+        file.write("]}\n")
     return script + NAMES
+
+
+def _text_of(whole: Any) -> str:
+    return json.dumps(whole, separators=(",", ":"))  # `dump` to a file takes five times as long
+
+
+def _text_in_list(piece: Iterable[NamedTransaction]) -> str:
+    return _text_of([*piece])[1:-1]
 
 
 def read_names(script: str) -> tuple[ScriptNames | None, str]:

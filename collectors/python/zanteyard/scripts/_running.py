@@ -1,5 +1,6 @@
 """Runs a saved script through the auditor, and keeps what the script offered."""
 
+import functools
 import json
 import os
 import re
@@ -8,10 +9,10 @@ import time
 from collections import Counter
 from collections.abc import Callable, Iterable, Iterator, Mapping, Sequence
 from dataclasses import dataclass, field, replace
-from typing import Any
+from typing import Any, overload
 
 from ..core._own_keys import FENCE, FORM, LARGE_FORM
-from ..core._records import ABORTED, AuditId, Logged, Pending, never_came
+from ..core._records import ABORTED, AuditId, Logged, Pending, has_come
 from ..core._verdict_kinds import Kind
 from ..program._tenancy import Tenancy
 from ..core.errors import (
@@ -93,40 +94,102 @@ class Verdict:
     rounds: int = 1  # how many were run, including the first
 
 
+class Taken(Sequence[Logged]):
+    """A session's transactions, each of which is turned into its Logged when that is wanted."""
+
+    def __init__(self, make: Callable[[int, Sequence[Any]], Logged]) -> None:
+        """`make` turns a transaction's number and what a script has of it into its Logged."""
+        self._make = make
+        self._items: list[tuple[int, Sequence[Any]] | Logged] = []
+
+    def take_in(self, first: int, transactions: Iterable[Sequence[Any]]) -> None:
+        """Appends transactions from this number on."""
+        self._items += enumerate(transactions, first)
+
+    def forget(self, count: int) -> None:
+        """Drops the first ones."""
+        del self._items[:count]
+
+    def replace(self, at: int, logged: Logged) -> None:
+        """Puts another one there."""
+        self._items[at] = logged
+
+    def reads(self) -> Iterator[tuple[int, str | int, Any]]:
+        """The place, the key and the source of each read of another transaction; the key has its
+        name if the transaction was turned into a Logged."""
+        for at, item in enumerate(self._items):
+            if isinstance(item, Logged):
+                yield from ((at, key, source) for key, source in item.reads)
+                continue
+            reads, _, *undone = item[1]
+            for key, *source in () if undone else reads:
+                if source[0] != "init":
+                    yield at, key, AuditId((source[0], source[1]))
+
+    def __len__(self) -> int:
+        return len(self._items)
+
+    @overload
+    def __getitem__(self, at: int) -> Logged: ...
+
+    @overload
+    def __getitem__(self, at: slice) -> list[Logged]: ...
+
+    def __getitem__(self, at: int | slice) -> Logged | list[Logged]:
+        if isinstance(at, slice):
+            return [self[place] for place in range(*at.indices(len(self)))]
+        item = self._items[at]
+        if not isinstance(item, Logged):
+            item = self._items[at] = self._make(*item)
+        return item
+
+
 @dataclass
 class ScriptHistory:
     """What a script has offered, and what of it remains. Without names, keys are called `key 5` and
     transactions `0.1`."""
 
     names: ScriptNames = field(default_factory=lambda: ScriptNames(""))
-    history: list[list[Logged]] = field(default_factory=list)
+    history: list[Taken] = field(default_factory=list)
     marks: list[int] = field(default_factory=list)  # how many of each session are forgotten
     base: dict[str, AuditId] = field(default_factory=dict)  # by key, the last forgotten writer
     tenancy: Tenancy = field(default_factory=Tenancy)  # of sessions that several clients had
-    times: ScriptTimes = field(default_factory=ScriptTimes)
+    find_times: Callable[[], ScriptTimes | None] = lambda: None
+
+    @functools.cached_property
+    def times(self) -> ScriptTimes:
+        """The transactions' times, as far as they are known."""
+        return self.find_times() or ScriptTimes()
 
     def begin(self, sessions: int) -> None:
         """Begins with this many sessions and no transactions."""
-        self.history, self.marks, self.base = [[] for _ in range(sessions)], [0] * sessions, {}
+        self.history, self.marks, self.base = [], [], {}
         self.tenancy = Tenancy()
+        for _ in range(sessions):
+            self._open()
+
+    def _open(self) -> None:
+        self.history.append(Taken(functools.partial(self._logged, len(self.history))))
+        self.marks.append(0)
 
     def join(self, session: int, transactions: Iterable[Any]) -> None:
         """Takes in an accepted `join`."""
         if session == len(self.history):
-            self.history.append([])
-            self.marks.append(0)
+            self._open()
         self.tenancy.begin_behind(session, self.marks[session])  # nothing of it remains
         self.take_in(session, transactions)
 
     def take_in(self, session: int, transactions: Iterable[Any]) -> None:
         """Takes in an accepted `offer`."""
-        for reads, keys, *more in transactions:
-            number = self.marks[session] + len(self.history[session])
-            named = self.names.transaction(session, number)
-            is_undone = more == [ABORTED]
-            logged = logged_of(reads, keys, self.key_name, named, is_undone)
-            span = self.times.span(AuditId((session, number)))
-            self.history[session].append(logged._replace(span=span) if span else logged)
+        taken = self.history[session]
+        taken.take_in(self.marks[session] + len(taken), transactions)
+
+    def _logged(self, session: int, number: int, transaction: Sequence[Any]) -> Logged:
+        reads, keys, *more = transaction
+        named = self.names.transaction(session, number)
+        logged = logged_of(reads, keys, self.key_name, named, more == [ABORTED])
+        span = self.times.span(AuditId((session, number)))
+        return logged._replace(span=span) if span else logged
 
     def called(self, id: AuditId) -> str:
         """The transaction's name, with its client's first transaction if the session had
@@ -150,15 +213,20 @@ class ScriptHistory:
             (self.key_name(key), AuditId((session, number))) for key, session, number in last
         )
         for session, count in Counter(session for session, _ in gone).items():
-            del self.history[session][:count]
+            self.history[session].forget(count)
             self.marks[session] += count
         for session, number in begun:
-            at = number - self.marks[session]
-            self.history[session][at] = self.history[session][at]._replace(reads=())
+            at, taken = number - self.marks[session], self.history[session]
+            taken.replace(at, taken[at]._replace(reads=()))
 
     def pending(self) -> Iterator[Pending]:
         """The reads that wait for a transaction which hasn't arrived."""
-        yield from never_came(self.history, self.marks)
+        received = [mark + len(taken) for mark, taken in zip(self.marks, self.history)]
+        for session, (mark, taken) in enumerate(zip(self.marks, self.history)):
+            for at, key, source in taken.reads():
+                if not has_come(source, received):
+                    called = key if isinstance(key, str) else self.key_name(key)
+                    yield Pending(AuditId((session, mark + at)), called, source)
 
     @property
     def remaining(self) -> int:
@@ -210,21 +278,21 @@ class ScriptRun:
         most_nodes: int = MORE[1][0],
         names: ScriptNames | None = None,
         promise: Promise | None = None,
-        times: ScriptTimes | None = None,
+        times: Callable[[], ScriptTimes | None] = lambda: None,
     ) -> None:
         """`most_nodes` is the largest budget with which a spent round is repeated. `names` are
-        those of the script's transactions and keys, and `times` say when the transactions began and
-        ended. The promise is the one that the script asks for, unless one is given. Raises
-        CantBeAskedError if the promise needs times and there are none."""
+        those of the script's transactions and keys, and `times` finds out when the transactions
+        began and ended, if that is wanted. The promise is the one that the script asks for, unless
+        one is given. Raises CantBeAskedError if the promise needs times and there are none."""
         self._is_given = promise is not None
         promise = promise or SERIALIZABLE
-        if promise.is_timed and times is None:
+        if promise.is_timed and times() is None:
             raise CantBeAskedError(
                 f"{promise.title} needs the times at which transactions began and ended, and the "
                 "script has none: they belong in a file next to it, SCRIPT.times"
             )
         self.most_nodes, self.promise = most_nodes, promise
-        self.history = ScriptHistory(names or ScriptNames(""), times=times or ScriptTimes())
+        self.history = ScriptHistory(names or ScriptNames(""), find_times=times)
         self._asking = Asking(promise)
         self._given = b""  # the last line that the auditor was given
         self.verdict: Verdict | None = None  # the latest one

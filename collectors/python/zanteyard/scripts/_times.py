@@ -94,10 +94,18 @@ def read_times(script: str) -> ScriptTimes | None:
             except (ValueError, TypeError) as error:
                 form = '["times","ns"]' if at == 1 else "[session,first,[[began,ended],..]]"
                 raise CantBeAskedError(f"{path}, line {at}: it has the form {form}") from error
-    mistake = mistake_in({(session, number): span for (session, number), span in spans.items()})
+    return checked_times(ScriptTimes(unit or "ns", spans), path)
+
+
+def checked_times(times: ScriptTimes, where: str) -> ScriptTimes:
+    """These times, which were found there. Raises CantBeAskedError if they are impossible."""
+    spans = {(session, number): span for (session, number), span in times.spans.items()}
+    mistake = mistake_in(spans)
+    if min((began for began, _ in spans.values()), default=0) < 0:
+        mistake = "a transaction began before the clock's beginning"
     if mistake:
-        raise CantBeAskedError(f"{path}: {mistake}")
-    return ScriptTimes(unit or "ns", spans)
+        raise CantBeAskedError(f"{where}: {mistake}")
+    return times
 
 
 def _spans_of(session: Any, first: Any, spans: Any) -> dict[AuditId, Span]:
