@@ -194,6 +194,17 @@ func (c *Catalog) Own() bool {
 	return true
 }
 
+// First reports whether nobody can make a relation that an unqualified name finds before those of a schema, without making a
+// schema or a temporary relation.
+func (c *Catalog) First(schema string) bool {
+	for _, one := range c.Path {
+		if one != "pg_catalog" {
+			return one == schema
+		}
+	}
+	return false
+}
+
 // OperatorsElsewhere returns the operators of a name of the server's own that aren't the server's own, and that an
 // unqualified name may mean.
 func (c *Catalog) OperatorsElsewhere(name string) []Operator {

@@ -82,6 +82,11 @@ func (f *Form) bindAll(b *binder) (part, error) {
 	if f.Given && !b.with.HasRows {
 		return part{}, noneBeside
 	}
+	if f.limit != nil {
+		if err := b.limits(*f.limit); err != nil {
+			return part{}, err
+		}
+	}
 	var parts []part
 	if _, isAll := f.root.(all); !isAll || len(f.beside) == 0 {
 		its, err := f.root.bind(b)

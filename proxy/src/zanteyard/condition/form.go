@@ -35,6 +35,7 @@ type Form struct {
 	root      expression
 	beside    []beside
 	sorted    []sorting // what ORDER BY has of the table's key, in front of all else
+	limit     *operand  // of a subquery, nil if it has none
 }
 
 // Why a statement isn't followed, or one of its tables.
@@ -51,6 +52,7 @@ const (
 	withQueries    = Refusal("WITH")
 	notAStatement  = Refusal("neither SELECT, UPDATE nor DELETE")
 	pathOrder      = Refusal("the search path names pg_catalog after other schemas")
+	mayBeHidden    = Refusal("a table's name that may come to mean one in another schema of the search path")
 )
 
 // Make reads what a statement asks of its table: a SELECT over one table, an UPDATE or a DELETE. The statement is a
@@ -80,6 +82,9 @@ func Make(statement map[string]any, text string, c *catalog.Catalog) (*Form, err
 	f := newForm(statement, text, c)
 	if err := f.from(from); err != nil {
 		return nil, err
+	}
+	if kind != "SelectStmt" && !f.isFirst(from) {
+		return nil, mayBeHidden
 	}
 	f.Drops = f.drops(kind, body)
 	r := &reader{form: f}
@@ -160,6 +165,12 @@ func (f *Form) from(entry any) error {
 	return nil
 }
 
+// isFirst reports whether a name can't come to mean another table for a moment, which no result would show.
+func (f *Form) isFirst(entry any) bool {
+	_, body := open(entry)
+	return body.has("schemaname") || f.catalog.First(f.Table.Schema)
+}
+
 // drops returns why a row that satisfies the condition may be missing in the result.
 func (f *Form) drops(kind string, body tree) string {
 	if kind != "SelectStmt" {
@@ -177,8 +188,12 @@ func (f *Form) drops(kind string, body tree) string {
 	case distinctOn(body):
 		return "DISTINCT ON"
 	}
-	reason := ""
-	visit(map[string]any(body), func(kind string, call tree) {
+	return f.setReturning(body)
+}
+
+// setReturning says that a query calls a function that may return no row.
+func (f *Form) setReturning(query tree) (reason string) {
+	visit(map[string]any(query), func(kind string, call tree) {
 		if names := call.names("funcname"); kind == "FuncCall" && len(names) > 0 {
 			schema := ""
 			if len(names) > 1 {

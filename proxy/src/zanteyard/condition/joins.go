@@ -23,6 +23,8 @@ type Side struct {
 	Alone *Form
 	// Decides means that no condition is left between the others, nor one that depends on no table.
 	Decides bool
+	// Absent means that it is the table of a subquery that found none, if the statement has a result: of NOT EXISTS, NOT IN.
+	Absent bool
 }
 
 // Outer is a column of another table's key, on whose value in a row of the result a form depends.
@@ -62,19 +64,14 @@ type joins struct {
 	where   []any
 	merged  map[string]bool // columns of USING
 	order   tree            // what ORDER BY and the result's columns are in
+	inner   *scope          // the table of the subquery that is read, which comes before the others; nil outside of one
 }
 
-// Joined reads what a SELECT over several tables asks of each of them, in the order of FROM. The error is a Refusal for
-// all of them.
+// Joined reads what a SELECT over several tables asks of each of them, in the order of FROM, and what a statement shows of
+// the subqueries in its conditions. The error is a Refusal for all of them.
 func Joined(statement map[string]any, text string, c *catalog.Catalog) ([]Side, error) {
 	kind, body := open(statement)
-	if kind != "SelectStmt" {
-		return nil, notAStatement
-	}
-	if err := skipsNothing(body); err != nil {
-		return nil, err
-	}
-	flat, limited, err := flatten(body, c)
+	flat, limited, err := entries(kind, body, c)
 	if err != nil {
 		return nil, err
 	}
@@ -84,14 +81,18 @@ func Joined(statement map[string]any, text string, c *catalog.Catalog) ([]Side, 
 			return nil, err
 		}
 	}
-	if len(j.scopes) < 2 && limited == nil {
-		return nil, notOneTable
-	}
-	if body.has("lockingClause") { // what is locked is tried again, beside the same rows of the others
+	if (len(j.scopes) > 1 || limited != nil) && body.has("lockingClause") { // what is locked is tried again, beside the same rows
 		return nil, locksRows
 	}
 	j.where = append(j.where, conjuncts(flat["whereClause"])...)
-	sides := make([]Side, len(j.scopes))
+	absent := j.absent(statement, text)
+	if kind == "InsertStmt" { // what it selects isn't told
+		return withoutOuter(absent), nil
+	}
+	if len(j.scopes) < 2 && limited == nil && !hasSubquery(flat["whereClause"]) {
+		return nil, notOneTable
+	}
+	sides := make([]Side, len(j.scopes), len(j.scopes)+len(absent))
 	for i, one := range j.scopes {
 		sides[i].Name = one.name
 		if sides[i].Form, sides[i].Why = j.side(one, statement, text); sides[i].Why == nil && limited[one.name] {
@@ -105,7 +106,10 @@ func Joined(statement map[string]any, text string, c *catalog.Catalog) ([]Side, 
 			sides[i].Alone = j.alone(one, statement, text)
 		}
 	}
-	return sides, nil
+	if kind != "SelectStmt" { // which rows it writes isn't told
+		absent = withoutOuter(absent)
+	}
+	return append(sides, absent...), nil
 }
 
 // walk reads an entry of a FROM clause.
@@ -242,37 +246,19 @@ func (j *joins) side(of *scope, statement map[string]any, text string) (*Form, e
 		case its:
 			asked = append(asked, one)
 		case !j.settled(one): // it may differ from row to row
-			return nil, unsettled
+			return nil, j.unsettled()
 		default: // if it doesn't hold, the result is empty
 			f.Given = true
 		}
 	}
+	made := &parted{form: f, others: map[string][]expression{}}
 	r := &reader{form: f, joins: j}
-	var args []expression
-	others := map[string][]expression{}
 	for _, one := range asked {
-		from := len(f.Outer)
-		its, err := r.truth(one)
-		if err != nil {
+		if err := made.add(func() (expression, error) { return r.truth(one) }); err != nil {
 			return nil, err
 		}
-		name := ""
-		for _, outer := range f.Outer[from:] {
-			if name != "" && name != outer.Name {
-				return nil, severalRows
-			}
-			name = outer.Name
-		}
-		if name == "" {
-			args = append(args, its)
-			continue
-		}
-		if others[name] == nil {
-			f.beside = append(f.beside, beside{name: name})
-		}
-		others[name] = append(others[name], its)
 	}
-	f.root = allOf(args)
+	made.end()
 	groups := j.joinedWithout(of)
 	for i := range f.beside {
 		for k := range f.beside[:i] {
@@ -280,10 +266,12 @@ func (j *joins) side(of *scope, statement map[string]any, text string) (*Form, e
 				return nil, severalRows // a row of each that are beside each other
 			}
 		}
-		f.beside[i].root = allOf(others[f.beside[i].name])
 	}
-	_, body := open(statement)
-	f.Drops = f.drops("SelectStmt", body)
+	kind, body := open(statement)
+	if kind != "SelectStmt" && !f.isFirst(of.entry) {
+		return nil, mayBeHidden
+	}
+	f.Drops = f.drops(kind, body)
 	if !of.nullable {
 		f.sorted = sorts(j.order, of.table, func(value any) *catalog.Column {
 			_, body := open(value)
@@ -295,6 +283,45 @@ func (j *joins) side(of *scope, statement map[string]any, text string) (*Form, e
 		})
 	}
 	return f, nil
+}
+
+// parted are the conditions of a form, by the other tables beside whose rows they are asked.
+type parted struct {
+	form   *Form
+	own    []expression
+	others map[string][]expression
+}
+
+// add reads one.
+func (p *parted) add(read func() (expression, error)) error {
+	from := len(p.form.Outer)
+	its, err := read()
+	if err != nil {
+		return err
+	}
+	name := ""
+	for _, outer := range p.form.Outer[from:] {
+		if name != "" && name != outer.Name {
+			return severalRows
+		}
+		name = outer.Name
+	}
+	if name == "" {
+		p.own = append(p.own, its)
+		return nil
+	}
+	if p.others[name] == nil {
+		p.form.beside = append(p.form.beside, beside{name: name})
+	}
+	p.others[name] = append(p.others[name], its)
+	return nil
+}
+
+func (p *parted) end() {
+	p.form.root = allOf(p.own)
+	for i := range p.form.beside {
+		p.form.beside[i].root = allOf(p.others[p.form.beside[i].name])
+	}
 }
 
 // allOf joins expressions by AND.
@@ -404,7 +431,16 @@ func (j *joins) resolve(names []string) (*scope, *catalog.Column, error) {
 	}
 	var found *scope
 	last := names[len(names)-1]
-	for _, one := range j.scopes {
+	scopes := j.scopes
+	if j.inner != nil {
+		switch mine, err := j.inside(names); {
+		case err != nil:
+			return nil, nil, err
+		case mine:
+			scopes = []*scope{j.inner}
+		}
+	}
+	for _, one := range scopes {
 		if _, ok := one.table.Column(last); !ok || !named(names, one.name, one.table) {
 			continue
 		}

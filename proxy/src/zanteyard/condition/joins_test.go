@@ -46,10 +46,9 @@ var joined = []struct{ from, why string }{
 	{"a JOIN b ON a.id = b.a_id AND random() < 2", "a function or subquery over other tables|a function or subquery over other tables"},
 	{"a JOIN b ON a.id = b.a_id WHERE EXISTS (SELECT 1 FROM c)", "a column of another table that isn't in its key|"},
 	{"a JOIN b ON a.id = b.a_id WHERE EXISTS (SELECT 1 FROM c WHERE c.id = a.x) AND b.z = 1", "a column of another table that isn't in its key|"},
-	{"a JOIN b ON a.id = b.a_id AND a.x IN (SELECT a_id FROM b AS other)", "a function or subquery over other tables|a function or subquery over other tables"},
+	{"a JOIN b ON a.id = b.a_id AND a.x IN (SELECT a_id FROM b AS other)", "a column of another table that isn't in its key|"},
 	{"a JOIN b ON a.id = b.a_id AND a.x IN (SELECT o.a_id FROM b AS o WHERE o.z = b.z)", "a column of another table that isn't in its key|a subquery"},
-	{"a JOIN b ON a.id = b.a_id AND a.x IN (SELECT a.n FROM c AS a)",
-		"a function or subquery over other tables|a function or subquery over other tables"},
+	{"a JOIN b ON a.id = b.a_id AND a.x IN (SELECT a.n FROM c AS a)", "a column of another table that isn't in its key|"},
 	{"a JOIN b ON a.id = b.a_id AND a.x IN (SELECT c.n FROM c LIMIT 1)", "a column of another table that isn't in its key|a function or subquery over other tables"},
 	{"a JOIN b ON a.id = b.a_id AND a.x IN (SELECT abs(c.n) FROM c)", "a column of another table that isn't in its key|a function or subquery over other tables"},
 	{"a JOIN b ON a.id = b.a_id AND a.x IN (SELECT s.id FROM secured s)", "a column of another table that isn't in its key|a function or subquery over other tables"},
@@ -65,7 +64,7 @@ var joined = []struct{ from, why string }{
 	// What doesn't depend on the table may still empty the result.
 	{"a LEFT JOIN b ON b.a_id = a.id WHERE a.x = 1 AND 1 = 0", "|"},
 	{"a LEFT JOIN b ON b.a_id = a.id WHERE a.x = 1 AND EXISTS (SELECT 1 FROM c WHERE c.n = 99)", "|"},
-	{"a LEFT JOIN b ON b.a_id = a.id WHERE a.x = 1 AND NOT EXISTS (SELECT 1 FROM c WHERE c.n = 99)", "|"},
+	{"a LEFT JOIN b ON b.a_id = a.id WHERE a.x = 1 AND NOT EXISTS (SELECT 1 FROM c WHERE c.n = 99)", "||"},
 	// Names with a schema, and with a database.
 	{"a JOIN b ON public.a.id = b.a_id WHERE public.b.z = 1", "a column of another table that isn't in its key|"},
 	{"a JOIN c ON c.id = a.id AND public.c.n = 1", "|"},
@@ -144,6 +143,9 @@ func TestJoined(t *testing.T) {
 // compareSide compares what a join asks of one of its tables with what is in its result.
 func compareSide(t *testing.T, conn *pgconn.PgConn, from string, side condition.Side, tables map[string][][]string) (compared int) {
 	t.Helper()
+	if side.Absent {
+		return compareAbsent(t, conn, from, side, tables)
+	}
 	found, with := map[string]bool{}, condition.Arguments{Beside: map[string][]record.Key{}}
 	for _, row := range rows(t, conn, "SELECT DISTINCT "+keyText(side.Form.Table.Name, side.Name)+" FROM "+from) {
 		found[row[0]] = true
@@ -180,6 +182,40 @@ func compareSide(t *testing.T, conn *pgconn.PgConn, from string, side condition.
 		}
 		if got := its.Holds(row(version...)) == condition.Yes; got && !found[key] || !got && found[key] && side.Form.Partly == nil {
 			t.Errorf("%s: %v of %s is %v", from, its, key, got)
+		}
+		compared++
+	}
+	return compared
+}
+
+// compareAbsent compares what a subquery that found nothing asks of its table with the rows that it has.
+func compareAbsent(t *testing.T, conn *pgconn.PgConn, from string, side condition.Side, tables map[string][][]string) (compared int) {
+	t.Helper()
+	with := condition.Arguments{Beside: map[string][]record.Key{}}
+	with.HasRows = rows(t, conn, "SELECT count(*) FROM "+from)[0][0] != "0"
+	for _, outer := range side.Form.Outer {
+		if with.Beside[outer.Name] != nil {
+			continue
+		}
+		for _, row := range rows(t, conn, "SELECT DISTINCT "+keyText(outer.Table.Name, outer.Name)+" FROM "+from) {
+			if row[0] != "" {
+				with.Beside[outer.Name] = append(with.Beside[outer.Name], record.Key(strings.ReplaceAll(row[0], "/", "\x00")))
+			}
+		}
+	}
+	its, err := side.Form.Bind(with)
+	if err != nil {
+		if with.HasRows && !strings.Contains(from, "LIMIT 0") && (len(side.Form.Outer) == 0 || with.Beside[side.Form.Outer[0].Name] != nil) {
+			t.Errorf("%s: %v", from, err)
+		}
+		return 0
+	}
+	if !with.HasRows {
+		t.Errorf("%s: %v, without a row", from, its)
+	}
+	for _, version := range tables[side.Form.Table.Name] {
+		if its.Holds(row(version...)) == condition.Yes {
+			t.Errorf("%s: %v holds of %s", from, its, version)
 		}
 		compared++
 	}
@@ -307,6 +343,145 @@ func keyText(table, name string) string {
 	return name + ".id::text"
 }
 
+// subqueries has, for each statement, what it asks of its own tables, and then of those of subqueries that found nothing.
+var subqueries = []struct{ from, want string }{
+	{"a WHERE a.x = 1 AND EXISTS (SELECT 1 FROM c WHERE c.n = 1)", "a WHERE x = 1"},
+	{"a WHERE a.x > 0 AND NOT EXISTS (SELECT 1 FROM c WHERE c.n = 1 AND z = 2)", "a WHERE x > 0; c WHERE n = 1 AND z = 2"},
+	{"a WHERE x > 0 AND NOT EXISTS (SELECT FROM c WHERE c.id = 9 LIMIT 1)", "a WHERE x > 0; c WHERE id = 9"},
+	{"a WHERE x > 0 AND NOT EXISTS (SELECT FROM c WHERE n = 9 LIMIT 0)", "a WHERE x > 0; a subquery with LIMIT 0, or a LIMIT that isn't a number"},
+	{"a WHERE x > 0 AND NOT EXISTS (SELECT FROM c WHERE n = 9 LIMIT NULL)", "a WHERE x > 0; c WHERE n = 9"},
+	{"a WHERE NOT EXISTS (SELECT n FROM c WHERE c.id = a.id AND n > 1)", "a subquery; c WHERE n > 1 AND id IN (..)"},
+	{"a WHERE NOT EXISTS (SELECT n FROM c WHERE id = a.id AND c.n <> a.id)", "a subquery; c WHERE .."},
+	{"a WHERE a.id NOT IN (SELECT c.n FROM c WHERE z = 1)", "a subquery; c WHERE z = 1 AND n IN (..)"},
+	{"a WHERE a.id <> ALL (SELECT c.n FROM c WHERE z = 1)", "a subquery; c WHERE z = 1 AND n IN (..)"},
+	{"a WHERE NOT (a.id = ANY (SELECT c.n FROM c))", "a subquery; c WHERE n IN (..)"},
+	{"a WHERE x = 1 AND 3 NOT IN (SELECT z FROM c WHERE n = 0)", "a WHERE x = 1; c WHERE n = 0 AND z = 3"},
+	{"a WHERE x = 1 AND 3 NOT IN (SELECT DISTINCT z FROM c WHERE n = 0)", "a WHERE x = 1; c WHERE n = 0 AND z = 3"},
+	{"a WHERE x = 1 AND NOT EXISTS (SELECT 1 FROM c WHERE n = 5 OR abs(z) = 9)", "a subquery; c WHERE n = 5"},
+	{"a WHERE x = 1 AND NOT EXISTS (SELECT 1 FROM c WHERE n = 5 GROUP BY z)", "a WHERE x = 1; c WHERE n = 5"},
+	{"a WHERE x >= 1 AND NOT EXISTS (SELECT 1 FROM a AS o WHERE o.x = 99 AND o.t = 'x')", "a WHERE x >= 1; a WHERE x = 99 AND t = 'x'"},
+	{"a WHERE x >= 1 AND NOT EXISTS (SELECT 1 FROM a AS o WHERE x = 99)", "a WHERE x >= 1; a WHERE x = 99"},
+	{"a WHERE x >= 1 AND NOT EXISTS (SELECT 1 FROM a WHERE x = 99)", "a WHERE x >= 1; a subquery over a table with the name of one around it"},
+	// An inner name means a column of the inner table, if that has it.
+	{"a WHERE NOT EXISTS (SELECT 1 FROM b WHERE b.a_id = id)", "a subquery; a comparison of two columns"},
+	{"a WHERE NOT EXISTS (SELECT 1 FROM b WHERE a_id = a.id AND b.z = 1)", "a subquery; b WHERE z = 1 AND a_id IN (..)"},
+	{"a WHERE NOT EXISTS (SELECT 1 FROM b WHERE a_id = x)", "a subquery; a column of another table that isn't in its key"},
+	{"a WHERE x = 1 AND NOT EXISTS (SELECT 1 FROM b WHERE b IS NULL)", "a WHERE x = 1; an unknown column"},
+	{"a WHERE x = 1 AND NOT EXISTS (SELECT 1 FROM c WHERE a IS NULL)", "a subquery; an unknown column"},
+	{"a WHERE x = 1 AND NOT EXISTS (SELECT 1 FROM c WHERE ctid IS NULL)", "a WHERE x = 1; an unknown column"},
+	// What finds nothing though there are rows, or something though there are none.
+	{"a WHERE x = 1 AND NOT EXISTS (SELECT 1 FROM c WHERE n = 5 OFFSET 1)", "a subquery; a subquery over several tables, or in another form"},
+	{"a WHERE x = 1 AND NOT EXISTS (SELECT z FROM c GROUP BY z HAVING count(*) > 9)", "a subquery; a subquery over several tables, or in another form"},
+	{"a WHERE x = 1 AND NOT EXISTS (SELECT 1 FROM c, b WHERE c.n = b.z AND false)", "a WHERE x = 1; a subquery over several tables, or in another form"},
+	{"a WHERE x = 1 AND NOT EXISTS (SELECT 1 FROM c WHERE false UNION SELECT 2 WHERE false)", "a WHERE x = 1; a subquery over several tables, or in another form"},
+	{"a WHERE x = 1 AND NOT EXISTS (SELECT generate_series(1, 0) FROM c)", "a subquery; a function that returns any number of rows"},
+	{"a WHERE x = 1 AND NOT EXISTS (SELECT 1 FROM c FOR UPDATE SKIP LOCKED)", "a subquery; a subquery over several tables, or in another form"},
+	{"a WHERE x = 1 AND NOT EXISTS (SELECT 1 FROM secured)", "a subquery; row security"},
+	{"a WHERE x = 1 AND NOT EXISTS (SELECT 1 FROM viewed)", "a subquery; a view"},
+	{"a WHERE x = 1 AND NOT EXISTS (SELECT 1 FROM ONLY c WHERE false)", "a WHERE x = 1; ONLY"},
+	{"a WHERE x = 1 AND NOT EXISTS (SELECT 1 FROM c TABLESAMPLE BERNOULLI (0))", "a subquery; TABLESAMPLE"},
+	{"a WHERE x = 1 AND 3 NOT IN (SELECT z FROM c LIMIT 1)", "a subquery; a subquery with LIMIT 0, or a LIMIT that isn't a number"},
+	{"a WHERE x = 1 AND 3 NOT IN (SELECT z + 1 FROM c)", "a WHERE x = 1; an expression over a column"},
+	// What doesn't say that nothing was found.
+	{"a WHERE x = 1 AND NOT (EXISTS (SELECT 1 FROM c) AND x = 2)", "a subquery"},
+	{"a WHERE x = 1 OR NOT EXISTS (SELECT 1 FROM c)", "a WHERE x = 1"},
+	{"a WHERE x = 1 AND 3 NOT IN (1, 2)", "a WHERE x = 1 AND 3 NOT IN (1, 2)"},
+	{"a WHERE x = 1 AND 3 = ANY (SELECT z FROM c)", "a WHERE x = 1"},
+	{"a WHERE x = 1 AND 3 <> ANY (SELECT z FROM c)", "a WHERE x = 1"},
+	{"a WHERE x = 1 AND random() < 2 AND NOT EXISTS (SELECT 1 FROM c WHERE n = 77)", "a subquery; c WHERE n = 77"},
+	// Beside rows of several tables.
+	{"a JOIN b ON a.id = b.a_id WHERE NOT EXISTS (SELECT 1 FROM c WHERE c.id = a.id AND c.n = 3 AND c.z = b.id)",
+		"a column of another table that isn't in its key; a subquery; a condition over three tables"},
+	{"a JOIN b ON a.id = b.a_id WHERE NOT EXISTS (SELECT 1 FROM c WHERE c.id = b.id AND c.n = 3)",
+		"a column of another table that isn't in its key; a subquery; c WHERE n = 3 AND id IN (..)"},
+	{"a LEFT JOIN b ON a.id = b.a_id AND NOT EXISTS (SELECT 1 FROM c WHERE c.n = 3)", "a; a subquery"},
+}
+
+// TestSubqueriesOfHiddenNames: a name in a subquery that may come to mean another table isn't followed.
+func TestSubqueriesOfHiddenNames(t *testing.T) {
+	_, all := open(t, "subqueries_of_hidden_names", joinsSchema+"CREATE SCHEMA before")
+	const hidden = "a table's name that may come to mean one in another schema of the search path"
+	for _, x := range []struct{ path, text, want string }{
+		{`["before", "public"]`, "SELECT * FROM a WHERE x = 1 AND NOT EXISTS (SELECT 1 FROM c WHERE n = 1)", "a subquery; " + hidden},
+		{`["before", "public"]`, "SELECT * FROM a WHERE x = 1 AND NOT EXISTS (SELECT 1 FROM public.c WHERE n = 1)", "; "},
+		{`["before", "public"]`, "UPDATE a SET x = 2 WHERE x = 1 AND NOT EXISTS (SELECT 1 FROM public.c WHERE n = 1)", hidden + "; "},
+		{`["before", "public"]`, "UPDATE public.a SET x = 2 WHERE x = 1 AND NOT EXISTS (SELECT 1 FROM public.c WHERE n = 1)", "; "},
+		{`["public", "before"]`, "UPDATE a SET x = 2 WHERE x = 1 AND NOT EXISTS (SELECT 1 FROM c WHERE n = 1)", "; "},
+		{`["before", "public"]`, "INSERT INTO a SELECT 1 WHERE NOT EXISTS (SELECT 1 FROM c WHERE n = 1)", hidden},
+		{`["public"]`, "INSERT INTO a SELECT 1 WHERE NOT EXISTS (SELECT 1 FROM c WHERE n = 1)", ""},
+		{`["public"]`, "INSERT INTO a SELECT b.id FROM b WHERE NOT EXISTS (SELECT 1 FROM c WHERE n = b.id)", "an unknown column"},
+		{`["public"]`, "DELETE FROM a WHERE NOT EXISTS (SELECT 1 FROM c WHERE n = a.id)", "a subquery; a subquery that depends on rows that aren't told"},
+	} {
+		stmt, err := parsed(t, x.text)
+		if err != nil {
+			t.Fatal(err)
+		}
+		sides, err := condition.Joined(stmt, x.text, in(t, all, x.path))
+		if err != nil {
+			t.Errorf("%s: %v", x.text, err)
+			continue
+		}
+		var whys []string
+		for _, side := range sides {
+			why := ""
+			if side.Why != nil {
+				why = side.Why.Error()
+			}
+			whys = append(whys, why)
+		}
+		if got := strings.Join(whys, "; "); got != x.want {
+			t.Errorf("%s with %s: %s in place of %s", x.text, x.path, got, x.want)
+		}
+	}
+}
+
+// TestSubqueries: if a statement has a result, what its own tables are asked for is in it, and what a subquery that found
+// nothing asks for isn't there.
+func TestSubqueries(t *testing.T) {
+	conn, all := open(t, "subqueries", joinsSchema)
+	r := rand.New(rand.NewSource(3))
+	bound := map[string]int{}
+	for round := 0; round < 8; round++ {
+		rows(t, conn, "TRUNCATE a, b, c")
+		tables := fillJoined(t, conn, r, true)
+		for _, one := range subqueries {
+			text := "SELECT * FROM " + one.from
+			stmt, err := parsed(t, text)
+			if err != nil {
+				t.Fatal(err)
+			}
+			sides, err := condition.Joined(stmt, text, all)
+			if err != nil {
+				if round == 0 && err.Error() != "several tables, or none" {
+					t.Errorf("%s: %v", one.from, err)
+				}
+				continue
+			}
+			wants := strings.Split(one.want, "; ")
+			if len(sides) != len(wants) {
+				t.Errorf("%s: %d sides", one.from, len(sides))
+				continue
+			}
+			for i, side := range sides {
+				if side.Form == nil {
+					if side.Why.Error() != wants[i] {
+						t.Errorf("%s: %v in place of %s", one.from, side.Why, wants[i])
+					}
+					continue
+				}
+				compared := compareSide(t, conn, one.from, side, tables)
+				if its, err := side.Form.Bind(condition.Arguments{HasRows: true}); err == nil && its.String() != wants[i] {
+					t.Errorf("%s: %v in place of %s", one.from, its, wants[i])
+				} else if head := strings.Split(wants[i], " (..)")[0]; err != nil && len(side.Form.Outer) == 0 && err.Error() != wants[i] {
+					t.Errorf("%s: %v in place of %s", one.from, err, head)
+				}
+				bound[one.from+wants[i]] += compared
+			}
+		}
+	}
+	t.Logf("%d of %d were compared", len(bound), len(subqueries))
+}
+
 func TestJoinsRefused(t *testing.T) {
 	_, all := open(t, "joins_refused", joinsSchema)
 	for text, want := range map[string]string{
@@ -342,7 +517,7 @@ func TestJoinsRefused(t *testing.T) {
 		"SELECT * FROM a, b FOR UPDATE SKIP LOCKED":                      "SKIP LOCKED",
 		"WITH b AS (SELECT 1) SELECT * FROM a, b":                        "a subquery in FROM that isn't followed",
 		"WITH u AS (SELECT 1) SELECT * FROM a, b":                        "WITH",
-		"DELETE FROM a USING b WHERE a.id = b.id":                        "neither SELECT, UPDATE nor DELETE",
+		"DELETE FROM a USING b WHERE a.id = b.id":                        "several tables, or none",
 	} {
 		stmt, err := parsed(t, text)
 		if err != nil {

@@ -194,6 +194,8 @@ func TestRefusals(t *testing.T) {
 		{"", "SELECT * FROM w WHERE a OPERATOR(odd.=) '1'", none, "an operator that the search path finds elsewhere"},
 		{odd, "SELECT * FROM w WHERE r && int4range(1, 2)", none, "a function that the search path finds elsewhere"},
 		{"", "SELECT * FROM w WHERE r && odd.int4range(1, 2)", none, "a function that the search path finds elsewhere"},
+		{odd, "UPDATE w SET a = 1 WHERE td IS NULL", none, "a table's name that may come to mean one in another schema of the search path"},
+		{odd, "DELETE FROM w WHERE td IS NULL", none, "a table's name that may come to mean one in another schema of the search path"},
 		{late, "SELECT * FROM w WHERE d = '2024-01-01'", none, "the search path names pg_catalog after other schemas"},
 		{"", "SELECT * FROM w WHERE tc = 'x'::odd.text", none, "a type that the search path finds elsewhere"},
 	} {
@@ -275,6 +277,8 @@ func TestTaken(t *testing.T) {
 		{"", "SELECT * FROM w WHERE a = $1 AND id = $1", condition.Arguments{Parameters: [][]byte{[]byte("5")}}, "w WHERE a = 5 AND id = 5"},
 		{"", "SELECT $1::int, * FROM w WHERE a = $1", condition.Arguments{Parameters: [][]byte{[]byte("5")}, Types: []uint32{23}},
 			"w WHERE a = 5"},
+		{`["odd", "public"]`, "DELETE FROM public.w WHERE td IS NULL", condition.Arguments{}, "w WHERE td IS NULL"},
+		{`["pg_catalog", "public"]`, "DELETE FROM w WHERE td IS NULL", condition.Arguments{}, "w WHERE td IS NULL"},
 		{`["odd", "public"]`, "SELECT * FROM w WHERE td = 'x'", condition.Arguments{}, "w WHERE td = 'x'"},
 		{`["odd", "public"]`, "SELECT * FROM w WHERE 'x' = td", condition.Arguments{}, "an operator that the search path finds elsewhere"},
 		{`["odd", "public"]`, "SELECT * FROM w WHERE '1' = a", condition.Arguments{}, "w WHERE a = 1"},

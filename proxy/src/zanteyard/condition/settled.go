@@ -27,7 +27,7 @@ func (j *joins) named(value any) (all []*scope, err error) {
 			if all = append(append(all, outside...), inside...); wrong != nil {
 				err = wrong
 			} else if unclear {
-				err = unsettled
+				err = j.unsettled()
 			}
 			return false
 		}
@@ -36,9 +36,20 @@ func (j *joins) named(value any) (all []*scope, err error) {
 	return all, err
 }
 
+// unsettled is why a condition isn't followed that may differ from row to row.
+func (j *joins) unsettled() Refusal {
+	if len(j.scopes) == 1 {
+		return aSubquery
+	}
+	return unsettled
+}
+
 // namedInside are the tables around a subquery that it mentions. What a name without a table means isn't certain if both
 // may have it, and neither what the name of a table means that has another one in it.
 func (j *joins) namedInside(query any) (all []*scope, unclear bool) {
+	if its, is := j.flat(query); is {
+		return j.namedInFlat(query, its)
+	}
 	own := map[string]bool{}
 	visit(query, func(kind string, body tree) {
 		if alias := body.tree("alias").text("aliasname"); alias != "" {
@@ -59,6 +70,72 @@ func (j *joins) namedInside(query any) (all []*scope, unclear bool) {
 			}
 			if len(fields) > 1 && fields[len(fields)-2] == one.name {
 				all, unclear = append(all, one), unclear || own[one.name]
+			}
+		}
+	})
+	return all, unclear
+}
+
+// flat returns the tables of a subquery that has nothing else, by name: a name that may mean a column of theirs does so.
+func (j *joins) flat(query any) (its map[string]*catalog.Table, is bool) {
+	queries := 0
+	its, is = map[string]*catalog.Table{}, true
+	visit(query, func(kind string, body tree) {
+		switch kind {
+		case "SelectStmt":
+			queries++
+			is = is && body.has("fromClause") && !body.has("withClause")
+		case "JoinExpr":
+			is = is && !body.has("alias") && !body.has("join_using_alias")
+		case "RangeSubselect", "RangeFunction", "RangeTableFunc", "RangeTableSample":
+			is = false
+		case "RangeVar":
+			table, ok := j.catalog.Find(body.text("schemaname"), body.text("relname"))
+			name := body.text("relname")
+			if alias := body.tree("alias").text("aliasname"); alias != "" {
+				name = alias
+			}
+			if is = is && ok && !body.tree("alias").has("colnames") && its[name] == nil; is {
+				its[name] = table
+			}
+		}
+	})
+	return its, is && queries == 1
+}
+
+// namedInFlat is namedInside for such a subquery.
+func (j *joins) namedInFlat(query any, its map[string]*catalog.Table) (all []*scope, unclear bool) {
+	visit(query, func(kind string, body tree) {
+		fields := body.names("fields")
+		if kind != "ColumnRef" || len(fields) == 0 {
+			return
+		}
+		last := fields[len(fields)-1]
+		if len(fields) > 1 {
+			name := fields[len(fields)-2]
+			for _, one := range j.scopes {
+				if one.name == name && its[name] == nil {
+					all = append(all, one)
+				}
+				unclear = unclear || one.name == name && its[name] != nil && len(fields) > 2
+			}
+			return
+		}
+		var mine *catalog.Table
+		for _, table := range its {
+			if _, has := table.Column(last); has {
+				mine = table
+			}
+		}
+		for _, one := range j.scopes {
+			_, has := one.table.Column(last)
+			switch {
+			case mine != nil: // until somebody drops the column
+				unclear = unclear || has && one.table.OID != mine.OID
+			case has:
+				all = append(all, one)
+			default: // a table's name stands for its rows
+				unclear = unclear || last == one.name && its[last] == nil
 			}
 		}
 	})
@@ -96,7 +173,7 @@ func init() {
 
 // settled reports whether a condition that the rows of the result satisfy would be satisfied again.
 func (j *joins) settled(value any) bool {
-	its := true
+	its, limits := true, 0
 	pure := func(names ...string) {
 		for _, name := range names {
 			its = its && j.catalog.PureOperator(name)
@@ -106,8 +183,11 @@ func (j *joins) settled(value any) bool {
 		its = its && settledKinds[kind]
 		switch kind {
 		case "SelectStmt":
-			for _, field := range []string{"limitCount", "limitOffset", "lockingClause", "withClause"} {
+			for _, field := range []string{"limitOffset", "lockingClause", "withClause"} {
 				its = its && !body.has(field)
+			}
+			if body.has("limitCount") {
+				limits++
 			}
 		case "A_Expr":
 			if pure(body.names("name")...); len(body.text("kind")) > len("AEXPR_OP") {
@@ -115,11 +195,16 @@ func (j *joins) settled(value any) bool {
 			}
 		case "CaseExpr", "RowExpr", "SubLink":
 			pure("=", "<>", "<", "<=", ">", ">=")
+			_, query := open(body["subselect"])
+			if limit, _ := open(query["limitCount"]); body.text("subLinkType") == "EXISTS_SUBLINK" && (limit == "A_Const" || limit == "ParamRef") {
+				limits-- // whichever rows it leaves, there are some or none
+			}
 		case "TypeCast":
 			its = its && j.isServers(body.tree("typeName"))
 		case "RangeVar":
 			table, ok := j.catalog.Find(body.text("schemaname"), body.text("relname"))
-			its = its && ok && (table.Kind == 'r' || table.Kind == 'p') && !table.RowSecurity && !body.has("catalogname")
+			its = its && ok && (table.Kind == 'r' || table.Kind == 'p') && !table.RowSecurity && !body.has("catalogname") &&
+				(body.has("schemaname") || j.catalog.First(table.Schema))
 			for i := 0; its && i < len(table.Columns); i++ {
 				its = j.isPlain(&table.Columns[i])
 			}
@@ -129,7 +214,7 @@ func (j *joins) settled(value any) bool {
 			}
 		}
 	})
-	return its
+	return its && limits == 0
 }
 
 // isPlain reports whether the server compares a column by what is its own.

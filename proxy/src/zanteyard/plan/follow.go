@@ -14,7 +14,8 @@ import (
 // follow is what a SELECT, an UPDATE or a DELETE asks its tables for, if that are conditions that are followed.
 type follow struct {
 	sides   []side
-	joins   bool // it has several tables
+	joins   bool // it has several tables, or subqueries: what it asks for depends on its result
+	within  bool // it depends on what names in subqueries refer to
 	limited bool
 	limit   askedPart
 	skips   bool // it has an OFFSET
@@ -40,6 +41,7 @@ type side struct {
 	alone          *condition.Form
 	aloneConstants []int
 	decides        bool
+	absent         bool // a subquery found none, if the statement has a result
 }
 
 // Why what a SELECT asks for isn't followed.
@@ -49,6 +51,7 @@ const (
 	writesToo     = "a function that may write"
 	unclearLimit  = "a LIMIT that isn't a number"
 	skipsRows     = "OFFSET"
+	foundSome     = "a subquery that may have found rows"
 )
 
 // asksBy decides whether what a SELECT asks for is followed: then whatever isn't in its result was passed over.
@@ -60,7 +63,11 @@ func (m *maker) asksBy(p *Plan, body node) {
 		p.NotFollowed = "UNION, INTERSECT or EXCEPT"
 		return
 	}
-	if !body.has("fromClause") || len(p.Sources) == 0 && len(p.Unseen) == 0 { // it has only the server's own tables
+	if !body.has("fromClause") {
+		m.asksForNone(p, "SelectStmt", body, body)
+		return
+	}
+	if len(p.Sources) == 0 && len(p.Unseen) == 0 { // it has only the server's own tables
 		return
 	}
 	f, reason := m.follow(p, body)
@@ -77,11 +84,16 @@ func (m *maker) asksToWrite(p *Plan, name string, body node, others string) {
 	case body.has(others):
 		p.NotFollowed = severalTables
 		return
-	case len(p.Unseen) > 0:
+	case len(p.Unseen) > 0 && !p.onlySubqueries():
 		p.NotFollowed = p.Unseen[0].Reason
 		return
 	}
-	f, reason := m.followBy(name, body)
+	f, reason := (*follow)(nil), ""
+	if hasSubquery(body["whereClause"]) {
+		f, reason = m.followJoin(p, name, body)
+	} else {
+		f, reason = m.followBy(name, body)
+	}
 	if p.follow = f; f == nil {
 		p.NotFollowed = reason
 	}
@@ -91,7 +103,7 @@ func (m *maker) follow(p *Plan, body node) (*follow, string) {
 	switch {
 	case p.MayWriteUnseen:
 		return nil, writesToo
-	case len(p.Unseen) > 0 && (len(p.Sources) == 0 || !isJoin(body)):
+	case len(p.Unseen) > 0 && (len(p.Sources) == 0 || !isJoin(body) && !p.onlySubqueries()):
 		return nil, p.Unseen[0].Reason
 	case body.has("groupClause") && !p.Lists(): // otherwise each group lists its rows
 		return nil, "GROUP BY"
@@ -102,8 +114,8 @@ func (m *maker) follow(p *Plan, body node) (*follow, string) {
 	case m.setReturning(map[string]any(body)):
 		return nil, aSetFunction
 	}
-	if isJoin(body) {
-		return m.followJoin(p, body)
+	if isJoin(body) || hasSubquery(body["whereClause"]) {
+		return m.followJoin(p, "SelectStmt", body)
 	}
 	if len(p.Sources) != 1 {
 		return nil, severalTables
@@ -177,13 +189,14 @@ func (m *maker) limits(f *follow, body node) (reason string) {
 	return ""
 }
 
-// followJoin decides what a SELECT over several tables asks each of them for.
-func (m *maker) followJoin(p *Plan, body node) (*follow, string) {
-	tables, err := condition.Joined(map[string]any{"SelectStmt": map[string]any(body)}, m.joined, m.catalog)
+// followJoin decides what a statement over several tables asks each of them for, or one with subqueries.
+func (m *maker) followJoin(p *Plan, name string, body node) (*follow, string) {
+	tables, err := condition.Joined(map[string]any{name: map[string]any(body)}, m.joined, m.catalog)
 	if err != nil {
 		return nil, err.Error()
 	}
 	f, follows := &follow{joins: true, limited: body.has("limitCount"), skips: body.has("limitOffset")}, false
+	f.within = m.namesWithin(p, body)
 	for _, one := range tables {
 		its := side{}
 		if one.Whole && one.Nullable && p.sourceOf(one.Name) < 0 && p.onlySkips() {
@@ -195,6 +208,9 @@ func (m *maker) followJoin(p *Plan, body node) (*follow, string) {
 			its.why = p.shows(one)
 		}
 		its.name, its.whole, its.nullable, its.source = one.Name, one.Whole, one.Nullable, p.sourceOf(one.Name)
+		if its.absent = one.Absent; one.Absent || p.Kind == Write {
+			its.source = -1
+		}
 		if its.why != "" {
 			its.form, its.constants = nil, nil
 		}
@@ -205,9 +221,13 @@ func (m *maker) followJoin(p *Plan, body node) (*follow, string) {
 			}
 		}
 		f.sides = append(f.sides, its)
+		f.sorted = f.sorted || its.absent // whatever rows were cut off, a subquery found none beside the others
 		follows = follows || its.form != nil || its.whole && its.source >= 0
 	}
-	if !follows {
+	switch {
+	case len(f.sides) == 0:
+		return nil, ""
+	case !follows:
 		return nil, f.sides[0].why
 	}
 	if reason := m.limits(f, body); reason != "" {
@@ -219,6 +239,9 @@ func (m *maker) followJoin(p *Plan, body node) (*follow, string) {
 // shows says why the result doesn't show the rows of a table, or of one beside whose rows it is asked.
 func (p *Plan) shows(of condition.Side) string {
 	names := []string{of.Name}
+	if of.Absent || p.Kind == Write { // it found none, and what it wrote the log tells
+		names = nil
+	}
 	for _, outer := range of.Form.Outer {
 		names = append(names, outer.Name)
 	}
@@ -255,12 +278,16 @@ func (p *Plan) Follows() bool { return p.follow != nil }
 // Joins reports whether it asks several tables. Then what it asks for depends on its result.
 func (p *Plan) Joins() bool { return p.follow != nil && p.follow.joins }
 
+// NamesWithin reports whether what it asks for depends on what names refer to in its subqueries, which no result shows.
+func (p *Plan) NamesWithin() bool { return p.follow != nil && p.follow.within }
+
 // Question is what a statement asks a table for.
 type Question struct {
 	By       *condition.Condition
 	Identity record.Identity // of the table's key
 	Columns  record.Identity // and of its columns
-	Source   int             // which of the plan's sources it is, if there are several tables
+	Source   int             // which of the plan's sources it is, if there are several tables; -1 for none of them
+	Absent   bool            // it is a subquery's that found none: it hasn't seen what its own statement wrote
 	Why      string          // why it isn't followed
 	Partly   string          // or a part of it
 	Given    []record.Read   // rows of other tables beside which it was asked: they have to have been there
@@ -323,10 +350,11 @@ type Found struct {
 	Last    record.Key // of the result's last row; "" if an outer join left it out
 }
 
-// AsksJoined returns what a statement asks several tables for, by its result. What it asks a table for by its whole key isn't
-// returned: no other row can satisfy it. before finds a row by its key among those that earlier statements have read.
-func (p *Plan) AsksJoined(text string, tokens Tokens, with condition.Arguments, found []Found, before Before) []Question {
-	with.Beside = map[string][]record.Key{}
+// AsksJoined returns what a statement asks several tables for, by its result: the rows that it found, and whether it wrote
+// any, or has some though it is of no table. What it asks a table for by its whole key isn't returned: no other row can
+// satisfy it. before finds a row by its key among those that earlier statements have read.
+func (p *Plan) AsksJoined(text string, tokens Tokens, with condition.Arguments, found []Found, before Before, hasRows bool) []Question {
+	with.Beside, with.HasRows = map[string][]record.Key{}, hasRows && (p.Kind == Write || len(p.Sources) == 0)
 	for i := range found {
 		with.Beside[p.Sources[i].Name] = found[i].Keys
 		with.HasRows = with.HasRows || len(found[i].Keys) > 0
@@ -342,8 +370,13 @@ func (p *Plan) AsksJoined(text string, tokens Tokens, with condition.Arguments, 
 		if with.Last = ""; its.source >= 0 {
 			with.Last = found[its.source].Last
 		}
-		if !its.whole || its.source < 0 || found[its.source].Missing {
+		switch {
+		case its.whole && (p.Kind == Write && hasRows || its.source >= 0 && !found[its.source].Missing):
+		case its.absent && !with.HasRows:
+			all = append(all, Question{Source: -1, Why: foundSome})
+		default:
 			by := with
+			by.Cut = with.Cut && !its.absent
 			keys, rows := p.follow.beside(i, given)
 			if len(rows) > 0 {
 				by.Beside, by.HasRows = keys, true
@@ -363,7 +396,7 @@ func (s *side) asks(text string, tokens Tokens, at int, with condition.Arguments
 		return Question{Why: s.why}
 	}
 	with.Constants, with.Left = tokens.texts(text, at, len(s.constants)), tokens.left
-	q := Question{Identity: s.form.Table.Identity, Columns: s.columns, Source: s.source}
+	q := Question{Identity: s.form.Table.Identity, Columns: s.columns, Source: s.source, Absent: s.absent}
 	var err error
 	if q.By, err = s.form.Bind(with); err != nil {
 		q.Why = err.Error()

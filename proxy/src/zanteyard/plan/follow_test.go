@@ -212,7 +212,7 @@ func joinAsked(t *testing.T, p *Plan, text string, tokens Tokens) string {
 		found[i].Keys = rows[name[strings.LastIndex(name, condition.Within)+1:]]
 	}
 	var all []string
-	for _, q := range p.AsksJoined(text, tokens, with, found, noneBefore) {
+	for _, q := range p.AsksJoined(text, tokens, with, found, noneBefore, false) {
 		if q.Why != "" {
 			all = append(all, "not: "+q.Why)
 			continue

@@ -236,6 +236,7 @@ type relation struct {
 	oid     uint32
 	columns []int16 // of the key, by number; all of them and the system columns have to be readable
 	whole   bool    // all columns have to be
+	named   bool    // the name alone matters
 }
 
 // Hidden returns the number of hidden columns after those of the statement.

@@ -26,7 +26,7 @@ func (m *maker) query(stmt statement, name string, body node, start int) *Plan {
 		}
 	}
 	if kindFound(body, "SubLink") {
-		p.leaveOut("a subquery")
+		p.leaveOut(aSubquery)
 	}
 	m.with = withNames(body)
 	if body.has("withClause") {

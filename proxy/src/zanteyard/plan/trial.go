@@ -59,6 +59,9 @@ func privileges(relations []relation, functions []string) string {
 func (r relation) condition() string {
 	oid := strconv.FormatUint(uint64(r.oid), 10)
 	condition := " AND pg_catalog.to_regclass(" + literal(r.name) + ")::pg_catalog.oid OPERATOR(pg_catalog.=) " + oid
+	if r.named {
+		return condition
+	}
 	for _, number := range append([]int16{xminNumber, tableoidNumber}, r.columns...) {
 		condition += " AND pg_catalog.has_column_privilege(" + oid + "::pg_catalog.oid, (" +
 			strconv.Itoa(int(number)) + ")::pg_catalog.int2, 'SELECT')"

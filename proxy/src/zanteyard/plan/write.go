@@ -22,6 +22,7 @@ func (m *maker) inserts(p *Plan, body node, end int) {
 	if target == nil {
 		return
 	}
+	m.asksForNone(p, "InsertStmt", body, selected)
 	one := !selected.has("fromClause") && !selected.has("valuesLists") && !m.setReturning(selected["targetList"]) &&
 		(!selected.has("op") || selected.text("op") == "SETOP_NONE")
 	few := one || selected.has("valuesLists") && !m.many

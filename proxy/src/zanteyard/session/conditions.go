@@ -23,7 +23,7 @@ const (
 	joinOfNone   = "a join of no rows"
 	ofNothing    = "an aggregate of no rows, which doesn't show its table"
 	unclearEnd   = "a transaction whose end isn't known"
-	namesUnsure  = "an UPDATE or DELETE of whose names it isn't certain what they refer to"
+	namesUnsure  = "names of which it isn't certain what they refer to"
 )
 
 const (
@@ -75,6 +75,8 @@ func (s *Session) asksBy(st *statement, with condition.Arguments) *asking {
 		it.why = err.Error()
 	case p.Skips(st.text, st.tokens, with):
 		it.why = skipsRows
+	case p.NamesWithin() && !s.certainNames():
+		it.why = namesUnsure
 	case p.Joins():
 		with = kept(with)
 		it.joined = &joined{plan: p, text: st.text, tokens: st.tokens, with: with, found: make([]plan.Found, len(p.Sources)),
@@ -118,7 +120,7 @@ func (s *Session) gotJoined(a *asking, values [][]byte, isBinary, failed, isWhol
 	a.rows++
 	j, kept := a.joined, 0
 	switch {
-	case a.why != "":
+	case a.why != "", a.writes:
 		return
 	case failed:
 		a.why = unclearRow
@@ -153,18 +155,31 @@ func (s *Session) gotJoined(a *asking, values [][]byte, isBinary, failed, isWhol
 	}
 }
 
-// asksUnchanged returns what an UPDATE or DELETE asks for that is sent as it is. What its names refer to isn't tried, so it
-// has to be certain.
+// asksUnchanged returns what a statement asks for that is sent as it is: an UPDATE or DELETE, or one whose subqueries show
+// that they found nothing. What its names refer to isn't tried, so it has to be certain.
 func (s *Session) asksUnchanged(st *statement, with condition.Arguments) *asking {
-	if st.plan == nil || st.plan.Kind != plan.Write || !st.plan.Follows() || !s.looking() || !s.understands(st.plan) || s.replay.plain {
+	if st.plan == nil || !isUnchanged(st.plan) || !st.plan.Follows() || !s.looking() || !s.understands(st.plan) || s.replay.plain {
 		return nil
 	}
-	t := &s.trust
-	if t.doubt || !t.asks || !t.here || t.block.isPrivate || t.pooled || t.hasTemporary() {
-		t.wanted = true
+	if !s.certainNames() {
 		return nil
 	}
 	return s.asksBy(st, with)
+}
+
+// isUnchanged reports whether what a statement asks for is known without hidden columns.
+func isUnchanged(p *plan.Plan) bool {
+	return p.Kind == plan.Write || p.Kind == plan.Select && p.Hidden() == 0
+}
+
+// certainNames reports whether it is certain what names refer to that no result shows.
+func (s *Session) certainNames() bool {
+	t := &s.trust
+	if t.doubt || !t.asks || !t.here || t.block.isPrivate || t.pooled || t.hasTemporary() {
+		t.wanted = true
+		return false
+	}
+	return true
 }
 
 // arguments are what a Bind has in the places of parameters.
@@ -216,13 +231,13 @@ func (a *asking) foundAny() bool {
 	return false
 }
 
-// askedBy records what a statement that has ended has asked for. changed says that it has written rows.
-func (s *Session) askedBy(p *plan.Plan, e *expectation, noted *record.Statement, changed bool) {
-	t, a := &s.tx, e.asking
+// askedBy records what a statement that has ended has asked for, and has returned or written some rows.
+func (s *Session) askedBy(p *plan.Plan, e *expectation, noted *record.Statement, hasRows bool) {
+	t, a, changed := &s.tx, e.asking, hasRows && p.Kind == plan.Write
 	if !p.Touches() || p.NotFollowed == "" && !p.Follows() || a != nil && a.done || len(t.Asks) > mostConditions {
 		return // of the server's own catalog nothing is asked that counts
 	}
-	if p.ByKey && (changed || a != nil && a.why == "" && a.rows > 0 && !p.Lists()) { // no other row can satisfy it
+	if p.ByKey && !p.Joins() && (changed || a != nil && a.why == "" && a.rows > 0 && !p.Lists()) { // no other row can satisfy it
 		return
 	}
 	cut := a != nil && a.rows >= a.most && !a.writes
@@ -246,7 +261,7 @@ func (s *Session) askedBy(p *plan.Plan, e *expectation, noted *record.Statement,
 		why = tooManyAsks
 	case e.current() != p:
 		why = aCursor
-	case a == nil && p.Kind == plan.Write:
+	case a == nil && isUnchanged(p):
 		why = namesUnsure
 	case a == nil:
 		why = notRewritten
@@ -279,16 +294,16 @@ func (s *Session) askedBy(p *plan.Plan, e *expectation, noted *record.Statement,
 	} else {
 		j := a.joined
 		j.with.Cut = cut
-		questions := j.plan.AsksJoined(j.text, j.tokens, j.with, j.found, t.hasRead)
-		if len(questions) == 0 && a.rows == 0 { // each table by its whole key, of which some row isn't there
+		questions := j.plan.AsksJoined(j.text, j.tokens, j.with, j.found, t.hasRead, hasRows)
+		if len(questions) == 0 && a.rows == 0 && !hasRows { // each table by its whole key, of which some row isn't there
 			t.Asks = append(t.Asks, record.Ask{Why: joinOfNone})
 		}
 		for _, one := range questions {
 			var found []record.Key
-			if one.Why == "" {
+			if one.Why == "" && one.Source >= 0 {
 				found = j.found[one.Source].Keys
 			}
-			t.ask(a, one, found, wrote)
+			t.ask(a, one, found, e.earlier || wrote && !one.Absent)
 		}
 		a.joined = nil
 	}

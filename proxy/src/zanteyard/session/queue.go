@@ -41,7 +41,8 @@ type expectation struct {
 	part    int  // which of several statements is being answered
 	pieces  []piece
 	rows    int  // rows of the statement that is being answered
-	wrote   bool // its transaction may have written before it
+	wrote   bool // its transaction may have written before it, or by it
+	earlier bool // or before its first row
 	loose   int  // of these, how many have no version
 	beyond  int  // and how many were made of more rows than are listed
 	// copied are the reads of a statement that lists all of them with its first row: they count when it has returned all rows.

@@ -229,7 +229,7 @@ func (s *Session) row(o *output, e *expectation, m []byte, start, end int, pass 
 	}
 	e.rows++
 	if e.rows == 1 {
-		e.from = len(s.tx.Reads)
+		e.from, e.earlier = len(s.tx.Reads), s.tx.mayHaveWritten()
 		s.tx.reading = record.Select{From: int32(e.from)}
 		s.fetched(e)
 		e.presumes(m)

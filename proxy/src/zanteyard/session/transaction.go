@@ -337,7 +337,9 @@ func (s *Session) notLooked(e *expectation, tag []byte) {
 
 func (s *Session) did(p *plan.Plan, e *expectation, tag []byte) {
 	t := &s.tx
-	e.wrote = t.mayHaveWritten()
+	if e.wrote = t.mayHaveWritten(); e.rows == 0 {
+		e.earlier = e.wrote
+	}
 	s.levels(p, e)
 	t.borrows = t.borrows || p.TakesSnapshot
 	switch p.Kind {
@@ -453,7 +455,7 @@ func (s *Session) leftOut(p *plan.Plan, e *expectation, noted *record.Statement,
 		s.trust.ran(e.use, e.changed)
 	}
 	_, n := counted(tag)
-	s.askedBy(rows(p), e, noted, p.Kind == plan.Write && n > 0)
+	s.askedBy(rows(p), e, noted, n > 0)
 	s.sums(p, e, tag, reason)
 	if noted != nil && rows(p).Copied && e.rows > 0 { // its reads were added just now
 		noted.To = len(s.tx.Reads)

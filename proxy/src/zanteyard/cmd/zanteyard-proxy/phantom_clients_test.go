@@ -52,6 +52,7 @@ func (c phantomCondition) asks(table string) (texts []string) {
 			texts = append(texts, "SELECT id, tag, pg_current_snapshot() FROM "+table+" WHERE "+text+more)
 		}
 	}
+	texts = append(texts, "SELECT id, tag, pg_current_snapshot() FROM "+table+" WHERE "+c.text+" AND EXISTS (SELECT 1 FROM parents WHERE pid = 1)")
 	// Only what has a parent is in the join. Row 0 has none.
 	return append(texts, "SELECT id, tag, pg_current_snapshot(), name FROM "+table+" JOIN parents ON pid = a WHERE "+c.text)
 }
@@ -179,10 +180,10 @@ func (c *phantomClient) transaction(t *phantomTxn) error {
 }
 
 func (c *phantomClient) select_(t *phantomTxn, own map[int]bool) error {
-	it := phantomAsk{by: someCondition(c.r), found: map[int]string{}, also: map[int][]string{}, own: map[int]bool{}}
-	for k := range own {
-		it.own[k] = true
+	if c.r.Intn(6) == 0 {
+		return c.none(t, own)
 	}
+	it := phantomAsk{by: someCondition(c.r), found: map[int]string{}, also: map[int][]string{}, own: ownKeys(own)}
 	rows, err := c.ask("SELECT pg_current_snapshot()")
 	if err != nil {
 		return err
@@ -195,8 +196,11 @@ func (c *phantomClient) select_(t *phantomTxn, own map[int]bool) error {
 	case 1:
 		which, it.locks = which+2, true
 	}
-	if c.r.Intn(5) == 0 {
+	switch c.r.Intn(10) {
+	case 0, 1:
 		which, it.locks, it.by = len(texts)-1, false, it.by.inJoin()
+	case 2:
+		which, it.locks = len(texts)-2, false
 	}
 	text := texts[which]
 	var shape *phantomShape
@@ -265,10 +269,7 @@ func (c *phantomClient) changes(t *phantomTxn, own map[int]bool, text string, by
 	if err != nil {
 		return nil, err
 	}
-	it := phantomAsk{by: *by, found: map[int]string{}, own: map[int]bool{}, locks: true, before: snapOf(before[0][0]), after: snapOf(after[0][0])}
-	for k := range own {
-		it.own[k] = true
-	}
+	it := phantomAsk{by: *by, found: map[int]string{}, own: ownKeys(own), locks: true, before: snapOf(before[0][0]), after: snapOf(after[0][0])}
 	for _, row := range rows {
 		k, _ := strconv.Atoi(row[0])
 		it.own[k] = true
@@ -282,11 +283,11 @@ func (c *phantomClient) write(t *phantomTxn, own map[int]bool) error {
 	if c.r.Intn(8) == 0 {
 		a = "NULL"
 	}
-	undone, deletes := c.r.Intn(8) == 0, false
-	text := ""
+	undone, deletes, unless := c.r.Intn(8) == 0, false, -1
+	text, none := "", someCondition(c.r)
 	var by *phantomCondition // what it asks by
 	itself := &phantomCondition{fmt.Sprintf("id = %d", key), func(v phantomRow) bool { return v.id == key }}
-	switch c.r.Intn(7) {
+	switch c.r.Intn(9) {
 	case 0, 1:
 		text = fmt.Sprintf("INSERT INTO %s VALUES (%d, %s, %d, '%s') ON CONFLICT DO NOTHING", c.table, key, a, b, t.tag)
 	case 2:
@@ -300,16 +301,24 @@ func (c *phantomClient) write(t *phantomTxn, own map[int]bool) error {
 		its := conditionOf(3, c.r.Intn(3), c.r.Intn(3))
 		deletes = true
 		text, by = fmt.Sprintf("DELETE FROM %s WHERE %s AND id > 0", c.table, its.text), &its
-	default:
+	case 6:
 		deletes = true
 		text, by = fmt.Sprintf("DELETE FROM %s WHERE id = %d", c.table, key), itself
+	default:
+		unless = c.r.Intn(3)
+		deletes = unless == 2
 	}
 	if undone {
 		if _, err := c.ask("SAVEPOINT a"); err != nil {
 			return err
 		}
 	}
-	rows, err := c.changes(t, own, text, by)
+	rows, err := [][]string(nil), error(nil)
+	if unless >= 0 {
+		rows, err = c.writesUnless(t, own, unless, none, key, a, b)
+	} else {
+		rows, err = c.changes(t, own, text, by)
+	}
 	if err != nil {
 		return err
 	}

@@ -114,7 +114,9 @@ func (group *phantomGroup) warm(level string) error {
 	for i := 0; i < 4; i++ { // in one message, and in several
 		texts := []string{"BEGIN"}
 		for kind := 0; kind < phantomKinds; kind++ {
-			texts = append(texts, conditionOf(kind, 1, 2).asks(group.table)...)
+			its := conditionOf(kind, 1, 2)
+			texts = append(append(texts, its.asks(group.table)...), its.nones(group.table)...)
+			texts = append(texts, first.unless(its, -1, "1", 1, "none")[1:]...)
 		}
 		shapesOf(group.table, func(number, kind int) {
 			its := conditionOf(kind, 1, 2).shape(number, group.table)
