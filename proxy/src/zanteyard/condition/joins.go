@@ -64,7 +64,9 @@ type joins struct {
 	where   []any
 	merged  map[string]bool // columns of USING
 	order   tree            // what ORDER BY and the result's columns are in
-	inner   *scope          // the table of the subquery that is read, which comes before the others; nil outside of one
+	// flattened says that the statement has subqueries in FROM.
+	flattened bool
+	inner     *scope // the table of the subquery that is read, which comes before the others; nil outside of one
 }
 
 // Joined reads what a SELECT over several tables asks of each of them, in the order of FROM, and what a statement shows of
@@ -75,7 +77,7 @@ func Joined(statement map[string]any, text string, c *catalog.Catalog) ([]Side, 
 	if err != nil {
 		return nil, err
 	}
-	j := &joins{catalog: c, merged: map[string]bool{}, order: flat}
+	j := &joins{catalog: c, merged: map[string]bool{}, order: flat, flattened: limited != nil}
 	for _, entry := range flat.list("fromClause") {
 		if err := j.walk(entry); err != nil {
 			return nil, err

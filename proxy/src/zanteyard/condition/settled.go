@@ -38,7 +38,7 @@ func (j *joins) named(value any) (all []*scope, err error) {
 
 // unsettled is why a condition isn't followed that may differ from row to row.
 func (j *joins) unsettled() Refusal {
-	if len(j.scopes) == 1 {
+	if len(j.scopes) == 1 && !j.flattened {
 		return aSubquery
 	}
 	return unsettled
