@@ -25,7 +25,24 @@ func (b *binder) outer(of operand) (value, error) {
 	if its.Place >= len(b.row) {
 		return value{}, Refusal("a row of another table that isn't known")
 	}
-	return b.cast(value{typ: its.Column.Base, raw: []byte(b.row[its.Place]), canonical: true, shownAs: its.Column.Type}, 0)
+	part := b.row[its.Place]
+	if its.Place >= len(its.Table.Key) {
+		if part == "" {
+			return value{typ: its.Column.Base, null: true}, nil
+		}
+		part = part[1:]
+	}
+	return b.cast(value{typ: its.Column.Base, raw: []byte(part), canonical: true, shownAs: its.Column.Type}, 0)
+}
+
+// Beside is a row of another table with its key and the values of more columns, as Arguments.Beside has it; nil for NULL.
+func Beside(key record.Key, more []*string) record.Key {
+	for _, one := range more {
+		if key += "\x00"; one != nil {
+			key += record.Key("=" + *one)
+		}
+	}
+	return key
 }
 
 // standing binds what a form asks for beside the rows of another table: it holds of a row that could stand beside one of
@@ -78,6 +95,10 @@ func (b *binder) amongRows(of compared, rows []record.Key) (part, error) {
 		column, unknown, err := b.pair(of.column, []value{one}, false)
 		if err != nil {
 			return part{}, err
+		}
+		if one.null {
+			its.column, its.nulls, shown = column, true, append(shown, "NULL")
+			continue
 		}
 		made, err := b.datum(one, column, unknown)
 		if err != nil {

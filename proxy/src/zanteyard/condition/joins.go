@@ -21,6 +21,8 @@ type Side struct {
 	Nullable bool // an outer join adds it
 	// Alone is what it asks of the table whatever the others have, if that is one row by its whole key, which Form.Key returns.
 	Alone *Form
+	// More are columns of it besides its key, of any value, on which what is asked of other tables depends.
+	More []*catalog.Column
 	// Decides means that no condition is left between the others, nor one that depends on no table.
 	Decides bool
 	// Absent means that it is the table of a subquery that found none, if the statement has a result: of NOT EXISTS, NOT IN.
@@ -32,12 +34,13 @@ type Outer struct {
 	Name   string // by which the statement knows the other table
 	Table  *catalog.Table
 	Column *catalog.Column
-	Place  int // among the columns of the table's key
+	Place  int // among the columns of the table's key, or behind them among the Side's More
 }
 
 const (
-	otherJoin    = Refusal("a join that isn't followed")
-	notItsKey    = Refusal("a column of another table that isn't in its key")
+	otherJoin = Refusal("a join that isn't followed")
+	// NotItsKey is for a column whose values aren't known of the rows that are in the result.
+	NotItsKey    = Refusal("a column of another table that isn't in its key")
 	maybeMissing = Refusal("a condition on a table that an outer join may leave out")
 	unsettled    = Refusal("a function or subquery over other tables")
 	ambiguous    = Refusal("a column that several tables have")
@@ -54,7 +57,8 @@ type scope struct {
 	table    *catalog.Table
 	name     string
 	nullable bool
-	quals    []any // of the outer join that may leave it out
+	quals    []any             // of the outer join that may leave it out
+	more     []*catalog.Column // besides its key, on which what is asked of other tables depends
 }
 
 // joins is a FROM clause with the conditions that every row of the result satisfies.
@@ -97,16 +101,21 @@ func Joined(statement map[string]any, text string, c *catalog.Catalog) ([]Side, 
 	sides := make([]Side, len(j.scopes), len(j.scopes)+len(absent))
 	for i, one := range j.scopes {
 		sides[i].Name = one.name
+		before := j.mores()
 		if sides[i].Form, sides[i].Why = j.side(one, statement, text); sides[i].Why == nil && limited[one.name] {
 			sides[i].Why = aLimitWithin
 		}
 		if sides[i].Why != nil {
 			sides[i].Form = nil
+			j.without(before)
 		}
 		sides[i].Whole, sides[i].Nullable = j.byWholeKey(one), one.nullable
 		if sides[i].Decides = j.decides(one); !limited[one.name] {
 			sides[i].Alone = j.alone(one, statement, text)
 		}
+	}
+	for i, one := range j.scopes {
+		sides[i].More = one.more
 	}
 	if kind != "SelectStmt" { // which rows it writes isn't told
 		absent = withoutOuter(absent)
@@ -495,11 +504,37 @@ func (r *reader) outer(names []string) (operand, error) {
 	default:
 		return operand{}, outerType
 	}
-	for i := range other.table.Key {
-		if other.table.Key[i].Number == column.Number {
-			r.form.Outer = append(r.form.Outer, Outer{other.name, other.table, column, i})
-			return operand{outer: len(r.form.Outer)}, nil
+	r.form.Outer = append(r.form.Outer, Outer{other.name, other.table, column, other.place(column)})
+	return operand{outer: len(r.form.Outer)}, nil
+}
+
+// place returns where a row of the table that stands beside another has a column's value: behind its key, if that hasn't it.
+func (s *scope) place(column *catalog.Column) int {
+	for i := range s.table.Key {
+		if s.table.Key[i].Number == column.Number {
+			return i
 		}
 	}
-	return operand{}, notItsKey
+	for i, one := range s.more {
+		if one.Number == column.Number {
+			return len(s.table.Key) + i
+		}
+	}
+	s.more = append(s.more, column)
+	return len(s.table.Key) + len(s.more) - 1
+}
+
+// mores are how many columns each table has besides its key, and without takes off those that were added since.
+func (j *joins) mores() []int {
+	counts := make([]int, len(j.scopes))
+	for i, one := range j.scopes {
+		counts[i] = len(one.more)
+	}
+	return counts
+}
+
+func (j *joins) without(since []int) {
+	for i, count := range since {
+		j.scopes[i].more = j.scopes[i].more[:count]
+	}
 }

@@ -10,6 +10,7 @@ import (
 
 	"github.com/jackc/pgconn"
 
+	"zanteyard/catalog"
 	"zanteyard/condition"
 	"zanteyard/record"
 )
@@ -20,9 +21,9 @@ const joinsSchema = `CREATE TABLE a (id int PRIMARY KEY, x int, t text); CREATE 
 
 // joined has, for each join, why each of its tables isn't followed, or "" if it is.
 var joined = []struct{ from, why string }{
-	{"a JOIN b ON a.id = b.a_id WHERE a.x = 1", "a column of another table that isn't in its key|"},
-	{"a JOIN b ON a.id = b.a_id WHERE b.z = 2 AND x > 0", "a column of another table that isn't in its key|"},
-	{"a, b WHERE a.id = a_id AND b.z IN (1, 2)", "a column of another table that isn't in its key|"},
+	{"a JOIN b ON a.id = b.a_id WHERE a.x = 1", "|"},
+	{"a JOIN b ON a.id = b.a_id WHERE b.z = 2 AND x > 0", "|"},
+	{"a, b WHERE a.id = a_id AND b.z IN (1, 2)", "|"},
 	{"a, b WHERE a.id = b.id AND (b.z = 1 OR a.id = 2)", "|"}, // partly
 	{"a, b WHERE a.id = b.id AND (b.z = 1 OR b.id = 2)", "|"},
 	{"a, b WHERE a.x = 1 AND b.z = 1", "|"},
@@ -31,51 +32,51 @@ var joined = []struct{ from, why string }{
 	{"a LEFT JOIN b ON b.a_id = a.id AND b.z = 1", "|"},
 	{"a LEFT JOIN b ON b.a_id = a.id WHERE b.z = 1", "a condition on a table that an outer join may leave out|"},
 	{"a LEFT JOIN b ON b.a_id = a.id WHERE b.id IS NULL", "a condition on a table that an outer join may leave out|"},
-	{"a LEFT JOIN b ON b.a_id = a.id AND a.x = 1", "|a column of another table that isn't in its key"},
+	{"a LEFT JOIN b ON b.a_id = a.id AND a.x = 1", "|a comparison without a column"},
 	{"a JOIN c USING (id) WHERE c.z = 1", "|"},
 	{"a JOIN c USING (id) WHERE id = 1", "|"},
 	{"a LEFT JOIN c USING (id) WHERE id > 1", "|"},
 	{"a JOIN b ON a.id = b.id JOIN c ON c.id = b.id AND c.n = a.id WHERE c.z IN (0, 1)",
 		"a condition over three tables|a condition over three tables|a condition over three tables"},
 	{"b JOIN a ON b.a_id = a.id JOIN c ON c.id = b.z AND c.n = 1",
-		"|a column of another table that isn't in its key|a column of another table that isn't in its key"},
+		"||"},
 	{"a LEFT JOIN b ON b.a_id = a.id LEFT JOIN c ON c.id = b.id AND c.z = 0 WHERE a.x < 2", "||"},
 	{"a LEFT JOIN b ON b.a_id = a.id LEFT JOIN c ON c.id = a.id WHERE b.z = 1",
 		"a condition on a table that an outer join may leave out||a condition on a table that an outer join may leave out"},
-	{"a AS one JOIN a AS two ON one.id = two.x", "a column of another table that isn't in its key|"},
+	{"a AS one JOIN a AS two ON one.id = two.x", "|"},
 	{"a JOIN b ON a.id = b.a_id AND random() < 2", "a function or subquery over other tables|a function or subquery over other tables"},
-	{"a JOIN b ON a.id = b.a_id WHERE EXISTS (SELECT 1 FROM c)", "a column of another table that isn't in its key|"},
-	{"a JOIN b ON a.id = b.a_id WHERE EXISTS (SELECT 1 FROM c WHERE c.id = a.x) AND b.z = 1", "a column of another table that isn't in its key|"},
-	{"a JOIN b ON a.id = b.a_id AND a.x IN (SELECT a_id FROM b AS other)", "a column of another table that isn't in its key|"},
-	{"a JOIN b ON a.id = b.a_id AND a.x IN (SELECT o.a_id FROM b AS o WHERE o.z = b.z)", "a column of another table that isn't in its key|a subquery"},
-	{"a JOIN b ON a.id = b.a_id AND a.x IN (SELECT a.n FROM c AS a)", "a column of another table that isn't in its key|"},
-	{"a JOIN b ON a.id = b.a_id AND a.x IN (SELECT c.n FROM c LIMIT 1)", "a column of another table that isn't in its key|a function or subquery over other tables"},
-	{"a JOIN b ON a.id = b.a_id AND a.x IN (SELECT abs(c.n) FROM c)", "a column of another table that isn't in its key|a function or subquery over other tables"},
-	{"a JOIN b ON a.id = b.a_id AND a.x IN (SELECT s.id FROM secured s)", "a column of another table that isn't in its key|a function or subquery over other tables"},
-	{"a JOIN b ON a.id = b.a_id AND a.x IN (SELECT v.id FROM viewed v)", "a column of another table that isn't in its key|a function or subquery over other tables"},
+	{"a JOIN b ON a.id = b.a_id WHERE EXISTS (SELECT 1 FROM c)", "|"},
+	{"a JOIN b ON a.id = b.a_id WHERE EXISTS (SELECT 1 FROM c WHERE c.id = a.x) AND b.z = 1", "a subquery|"},
+	{"a JOIN b ON a.id = b.a_id AND a.x IN (SELECT a_id FROM b AS other)", "a subquery|"},
+	{"a JOIN b ON a.id = b.a_id AND a.x IN (SELECT o.a_id FROM b AS o WHERE o.z = b.z)", "a subquery|a subquery"},
+	{"a JOIN b ON a.id = b.a_id AND a.x IN (SELECT a.n FROM c AS a)", "a subquery|"},
+	{"a JOIN b ON a.id = b.a_id AND a.x IN (SELECT c.n FROM c LIMIT 1)", "a subquery|a function or subquery over other tables"},
+	{"a JOIN b ON a.id = b.a_id AND a.x IN (SELECT abs(c.n) FROM c)", "a subquery|a function or subquery over other tables"},
+	{"a JOIN b ON a.id = b.a_id AND a.x IN (SELECT s.id FROM secured s)", "a subquery|a function or subquery over other tables"},
+	{"a JOIN b ON a.id = b.a_id AND a.x IN (SELECT v.id FROM viewed v)", "a subquery|a function or subquery over other tables"},
 	// A table's name that stands for its rows mentions it.
 	{"a JOIN b ON a.id = b.a_id WHERE EXISTS (SELECT 1 FROM c WHERE c.id = (a).id)",
 		"a function or subquery over other tables|a function or subquery over other tables"},
 	{"a JOIN b ON a.id = b.a_id WHERE EXISTS (SELECT 1 FROM c WHERE a IS NOT NULL)",
 		"a function or subquery over other tables|a function or subquery over other tables"},
 	{"a JOIN b ON a.id = b.a_id WHERE b.z = 1 AND EXISTS (SELECT 1 FROM c WHERE (c.z, c.n) IN (SELECT c.n, c.z))",
-		"a column of another table that isn't in its key|"},
-	{"a JOIN b ON a.id = b.a_id AND a.x::numeric(3) = 1", "a column of another table that isn't in its key|"},
+		"|"},
+	{"a JOIN b ON a.id = b.a_id AND a.x::numeric(3) = 1", "an expression over a column|"},
 	// What doesn't depend on the table may still empty the result.
 	{"a LEFT JOIN b ON b.a_id = a.id WHERE a.x = 1 AND 1 = 0", "|"},
 	{"a LEFT JOIN b ON b.a_id = a.id WHERE a.x = 1 AND EXISTS (SELECT 1 FROM c WHERE c.n = 99)", "|"},
 	{"a LEFT JOIN b ON b.a_id = a.id WHERE a.x = 1 AND NOT EXISTS (SELECT 1 FROM c WHERE c.n = 99)", "||"},
 	// Names with a schema, and with a database.
-	{"a JOIN b ON public.a.id = b.a_id WHERE public.b.z = 1", "a column of another table that isn't in its key|"},
+	{"a JOIN b ON public.a.id = b.a_id WHERE public.b.z = 1", "|"},
 	{"a JOIN c ON c.id = a.id AND public.c.n = 1", "|"},
 	// Subqueries in FROM.
 	{"(SELECT * FROM a WHERE x = 1) AS s", ""}, {"(SELECT a.x, id FROM a) AS s WHERE s.x = 1", ""},
 	{"(SELECT id, x AS y, t AS x FROM a WHERE id > 1) AS s WHERE s.y = 1", ""}, {"(SELECT id, 1 AS x FROM a) AS s WHERE x = 1", "a function or subquery over other tables"},
 	{"(SELECT id, x + 1 AS y FROM a WHERE x > 0) AS s", ""}, {"(SELECT id, x + 1 AS y FROM a WHERE x > 0) AS s WHERE y > 1", "a function or subquery over other tables"},
 	{"(SELECT id, x AS y, id AS y FROM a) AS s", ""}, {"(SELECT id FROM a WHERE s IS NULL) AS s", "a function or subquery over other tables"},
-	{"(SELECT id FROM a WHERE x = 1) AS s JOIN b ON s.id = b.a_id WHERE z < 3", "a column of another table that isn't in its key|"},
-	{"(SELECT id, id AS a_id FROM a WHERE x = 1) AS s JOIN b USING (a_id) WHERE a_id > 0", "a column of another table that isn't in its key|"},
-	{"(SELECT id FROM a WHERE x = 1 LIMIT 9) AS s JOIN b ON s.id = b.a_id", "a column of another table that isn't in its key|"},
+	{"(SELECT id FROM a WHERE x = 1) AS s JOIN b ON s.id = b.a_id WHERE z < 3", "|"},
+	{"(SELECT id, id AS a_id FROM a WHERE x = 1) AS s JOIN b USING (a_id) WHERE a_id > 0", "|"},
+	{"(SELECT id FROM a WHERE x = 1 LIMIT 9) AS s JOIN b ON s.id = b.a_id", "a LIMIT or OFFSET in a subquery in FROM|"},
 	{"(SELECT id FROM a WHERE x = 1 LIMIT 1) AS s LEFT JOIN b ON s.id = b.a_id AND b.z = 1", "a LIMIT or OFFSET in a subquery in FROM|"},
 	{"a LEFT JOIN (SELECT * FROM b WHERE z = 1) AS s ON s.a_id = a.id", "|"},
 	{"a LEFT JOIN (SELECT * FROM (SELECT * FROM b WHERE z < 3) AS u WHERE z > 0) AS s ON s.a_id = a.id AND a_id < 2", "|"},
@@ -133,7 +134,7 @@ func TestJoined(t *testing.T) {
 			}
 			for _, side := range sides {
 				if side.Form != nil {
-					compareSide(t, conn, one.from, side, tables)
+					compareSide(t, conn, one.from, side, sides, tables)
 				}
 			}
 		}
@@ -141,7 +142,7 @@ func TestJoined(t *testing.T) {
 }
 
 // compareSide compares what a join asks of one of its tables with what is in its result.
-func compareSide(t *testing.T, conn *pgconn.PgConn, from string, side condition.Side, tables map[string][][]string) (compared int) {
+func compareSide(t *testing.T, conn *pgconn.PgConn, from string, side condition.Side, all []condition.Side, tables map[string][][]string) (compared int) {
 	t.Helper()
 	if side.Absent {
 		return compareAbsent(t, conn, from, side, tables)
@@ -156,12 +157,30 @@ func compareSide(t *testing.T, conn *pgconn.PgConn, from string, side condition.
 		if with.Beside[outer.Name] != nil {
 			continue
 		}
-		key := keyText(outer.Table.Name, outer.Name)
+		key, more := keyText(outer.Table.Name, outer.Name), []*catalog.Column(nil)
+		for _, its := range all {
+			if its.Name == outer.Name {
+				more = its.More
+			}
+		}
+		name, _, _ := strings.Cut(outer.Name, condition.Within)
+		for _, column := range more {
+			key += ", " + name + "." + column.Name + "::text"
+		}
 		for _, row := range rows(t, conn, "SELECT DISTINCT "+key+" FROM "+from) {
 			if row[0] == "" { // an outer join found none
 				continue
 			}
-			with.Beside[outer.Name] = append(with.Beside[outer.Name], record.Key(strings.ReplaceAll(row[0], "/", "\x00")))
+			var values []*string
+			for i := range row[1:] {
+				if row[1+i] == "" {
+					values = append(values, nil)
+				} else {
+					values = append(values, &row[1+i])
+				}
+			}
+			with.Beside[outer.Name] = append(with.Beside[outer.Name],
+				condition.Beside(record.Key(strings.ReplaceAll(row[0], "/", "\x00")), values))
 		}
 		isBeside = isBeside && with.Beside[outer.Name] != nil
 	}
@@ -249,7 +268,7 @@ func TestRandomJoins(t *testing.T) {
 				refused[side.Why.Error()]++
 				continue
 			}
-			compared += compareSide(t, conn, from, side, tables)
+			compared += compareSide(t, conn, from, side, sides, tables)
 		}
 	}
 	if t.Logf("%d evaluations, refused: %v", compared, refused); compared < *joins/2 {
@@ -469,7 +488,7 @@ func TestSubqueries(t *testing.T) {
 					}
 					continue
 				}
-				compared := compareSide(t, conn, one.from, side, tables)
+				compared := compareSide(t, conn, one.from, side, sides, tables)
 				if its, err := side.Form.Bind(condition.Arguments{HasRows: true}); err == nil && its.String() != wants[i] {
 					t.Errorf("%s: %v in place of %s", one.from, its, wants[i])
 				} else if head := strings.Split(wants[i], " (..)")[0]; err != nil && len(side.Form.Outer) == 0 && err.Error() != wants[i] {

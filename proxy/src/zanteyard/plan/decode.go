@@ -15,9 +15,13 @@ func (p *Plan) Decode(values [][]byte, binary bool) ([]record.Read, error) {
 	return p.AppendReads(nil, values, binary)
 }
 
+// Take takes the rows of a source that one row of a result was made from, the values of its further columns, nil for NULL, and
+// whether an outer join left one out.
+type Take func(source int, its []record.Read, more []*string, missing bool)
+
 // Each calls take with the rows of each source that one row of a result was made from, and whether an outer join left one
 // out. It returns false if some can't be read.
-func (p *Plan) Each(values [][]byte, isBinary bool, take func(source int, its []record.Read, missing bool)) bool {
+func (p *Plan) Each(values [][]byte, isBinary bool, take Take) bool {
 	if len(values) != p.Hidden() {
 		return false
 	}
@@ -46,26 +50,44 @@ func (p *Plan) Each(values [][]byte, isBinary bool, take func(source int, its []
 		case group[0] == nil && !source.Nullable:
 			return false
 		case group[0] == nil:
-			take(i, nil, true)
+			take(i, nil, nil, true)
 		default:
 			read, err := source.decode(group, isBinary)
-			if err != nil {
+			more, ok := source.more(group, isBinary)
+			if err != nil || !ok {
 				return false
 			}
-			take(i, append(reads[:0], read), false)
+			take(i, append(reads[:0], read), more, false)
 		}
 	}
 	return true
 }
 
 // eachListed does the same with a list. If an outer join may have left some of its rows out, it isn't known whether it did.
-func (s *Source) eachListed(source int, list []byte, take func(source int, its []record.Read, missing bool)) bool {
+func (s *Source) eachListed(source int, list []byte, take Take) bool {
 	reads, err := s.appendList(nil, list)
 	if err != nil || s.Looked && !s.Nullable && len(reads) == 0 {
 		return false
 	}
-	take(source, reads, s.Nullable && (!s.Looked || len(reads) == 0))
+	take(source, reads, nil, s.Nullable && (!s.Looked || len(reads) == 0))
 	return true
+}
+
+// more returns the values of the columns besides the key.
+func (s *Source) more(group [][]byte, isBinary bool) (all []*string, ok bool) {
+	for i, typeOID := range s.More {
+		value := group[2+len(s.Types)+i]
+		if value == nil {
+			all = append(all, nil)
+			continue
+		}
+		text, readable := keys.FromHidden(typeOID, value, isBinary, s.Converts)
+		if !readable {
+			return nil, false
+		}
+		all = append(all, &text)
+	}
+	return all, true
 }
 
 // AppendReads is Decode into existing memory.

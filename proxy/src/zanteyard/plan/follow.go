@@ -191,7 +191,7 @@ func (m *maker) limits(f *follow, body node) (reason string) {
 
 // followJoin decides what a statement over several tables asks each of them for, or one with subqueries.
 func (m *maker) followJoin(p *Plan, name string, body node) (*follow, string) {
-	tables, err := condition.Joined(map[string]any{name: map[string]any(body)}, m.joined, m.catalog)
+	tables, err := m.tablesOf(name, body)
 	if err != nil {
 		return nil, err.Error()
 	}
@@ -206,6 +206,9 @@ func (m *maker) followJoin(p *Plan, name string, body node) (*follow, string) {
 			its.why = one.Why.Error()
 		} else if its, its.why = m.side(one.Form, f.limited || f.skips); its.why == "" {
 			its.why = p.shows(one)
+			if its.why == "" && p.lacksColumn(one.Form) {
+				its.why = condition.NotItsKey.Error()
+			}
 		}
 		its.name, its.whole, its.nullable, its.source = one.Name, one.Whole, one.Nullable, p.sourceOf(one.Name)
 		if its.absent = one.Absent; one.Absent || p.Kind == Write {
@@ -334,9 +337,18 @@ func (p *Plan) Skips(text string, tokens Tokens, with condition.Arguments) bool 
 // MayCut reports whether a statement has a LIMIT.
 func (p *Plan) MayCut() bool { return p.follow != nil && p.follow.limited }
 
-// Sorted reports whether something decides which rows a statement returns whose LIMIT cut others off. Otherwise it might have
-// returned any, and has asked for nothing else.
-func (p *Plan) Sorted() bool { return p.follow.sorted }
+// AsksNothingCut reports whether a statement whose LIMIT cut rows off has asked for nothing but what it returned: nothing
+// decides which rows it returns, so it might have returned any others.
+func (p *Plan) AsksNothingCut() bool {
+	for i := range p.follow.sides {
+		if p.follow.sides[i].absent { // beside the rows that it returned, a subquery found none
+			return false
+		}
+	}
+	return p.mayCutAny()
+}
+
+func (p *Plan) mayCutAny() bool { return !p.follow.sorted && !p.Lists() }
 
 // Asks returns what a statement asks its only table for, by the constants of its text and Bind's parameters.
 func (p *Plan) Asks(text string, tokens Tokens, with condition.Arguments) Question {
@@ -346,6 +358,7 @@ func (p *Plan) Asks(text string, tokens Tokens, with condition.Arguments) Questi
 // Found are the rows of one source in a result: their keys, each once, and whether an outer join left some out.
 type Found struct {
 	Keys    []record.Key
+	Beside  []record.Key // the same with the values of further columns, if the source has some
 	Missing bool
 	Last    record.Key // of the result's last row; "" if an outer join left it out
 }
@@ -356,7 +369,9 @@ type Found struct {
 func (p *Plan) AsksJoined(text string, tokens Tokens, with condition.Arguments, found []Found, before Before, hasRows bool) []Question {
 	with.Beside, with.HasRows = map[string][]record.Key{}, hasRows && (p.Kind == Write || len(p.Sources) == 0)
 	for i := range found {
-		with.Beside[p.Sources[i].Name] = found[i].Keys
+		if with.Beside[p.Sources[i].Name] = found[i].Keys; len(p.Sources[i].More) > 0 {
+			with.Beside[p.Sources[i].Name] = found[i].Beside
+		}
 		with.HasRows = with.HasRows || len(found[i].Keys) > 0
 	}
 	var given []*record.Read
@@ -372,6 +387,7 @@ func (p *Plan) AsksJoined(text string, tokens Tokens, with condition.Arguments, 
 		}
 		switch {
 		case its.whole && (p.Kind == Write && hasRows || its.source >= 0 && !found[its.source].Missing):
+		case with.Cut && !its.absent && p.mayCutAny():
 		case its.absent && !with.HasRows:
 			all = append(all, Question{Source: -1, Why: foundSome})
 		default:

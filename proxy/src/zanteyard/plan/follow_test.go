@@ -78,7 +78,7 @@ func TestFollowed(t *testing.T) {
 		{"", "SELECT a, count(*) FROM r GROUP BY a ORDER BY a LIMIT 3", "r, most 3"},
 		{"", "SELECT a FROM r GROUP BY a HAVING count(*) > 1 ORDER BY a", "HAVING"}, {"", "SELECT a FROM r GROUP BY id LIMIT 3", "GROUP BY"}, {"", "SELECT generate_series(1, a) FROM r LIMIT 3", aSetFunction},
 		{"", "SELECT count(*) FROM r", "r"}, {"", "SELECT sum(a) FROM r WHERE a > 5", "r WHERE a > 5"}, {"", "SELECT DISTINCT a FROM r", "r"},
-		{"", "SELECT r.id FROM r, other WHERE r.a = other.a", "a column of another table that isn't in its key"}, {"", "SELECT * FROM hidden", "no primary key"},
+		{"", "SELECT r.id FROM r, other WHERE r.a = other.a", "a join of no rows, beside which others could stand"}, {"", "SELECT * FROM hidden", "no primary key"},
 		{"", "SELECT * FROM secret", "row security"}, {"", "SELECT * FROM ONLY r", "ONLY"},
 		{"", "SELECT * FROM r TABLESAMPLE system (10)", "TABLESAMPLE"}, {"", "SELECT * FROM r FOR UPDATE SKIP LOCKED", "SKIP LOCKED"},
 		{"", "SELECT * FROM r WHERE a IN (SELECT a FROM other)", "a subquery"}, {"", "SELECT id FROM r UNION SELECT id FROM other", "UNION, INTERSECT or EXCEPT"},
@@ -146,7 +146,7 @@ func TestFollowsJoins(t *testing.T) {
 		t.Fatal(err)
 	}
 	cache := NewCache(known)
-	const issues, notKey = "FROM issue i JOIN project p ON p.id = i.project_id ", "a column of another table that isn't in its key"
+	const issues, notKey = "FROM issue i JOIN project p ON p.id = i.project_id ", "not: a column of another table that isn't in its key"
 	for _, x := range []struct{ text, want string }{
 		{"SELECT i.n " + issues + "WHERE i.n > 5 AND p.open", "issue WHERE n > 5 AND project_id IN (7, 8): 1,2"},
 		{"SELECT i.n " + issues + "WHERE i.n > $1 LIMIT $2", "issue WHERE n > 11 AND project_id IN (7, 8): 1,2, most 12"},
@@ -163,7 +163,10 @@ func TestFollowsJoins(t *testing.T) {
 		{"SELECT i.n " + issues + "FOR UPDATE", "FOR UPDATE of several tables"},
 		{"SELECT i.n " + issues + "WHERE lower(p.id::text) = 'x'", "not: a function or subquery over other tables"},
 		{"SELECT i.n FROM issue i JOIN secret s ON s.id = i.project_id", "row security"},
-		{"SELECT i.n FROM issue i JOIN keyless k ON k.id = i.project_id", notKey},
+		{"SELECT i.n FROM issue i JOIN keyless k ON k.id = i.project_id", "no primary key"},
+		{"SELECT p.open FROM project p JOIN issue i ON p.id < i.n", "project WHERE id < 5: 7,8; issue WHERE n > 7 OR n > 8: 1,2"},
+		{"SELECT p.open, a.name FROM project p LEFT JOIN person a ON a.name = 'x' AND p.open = (a.id > 2)", "project: 7,8; not: an expression over a column"},
+		{"SELECT count(*) FROM project p JOIN issue i ON p.id < i.n", notKey + "; issue WHERE n > 7 OR n > 8: 1,2"},
 		{"SELECT i.n FROM issue i NATURAL JOIN project p", "a join that isn't followed"},
 		{"SELECT i.n FROM issue i, (SELECT 1) AS s", "a subquery in FROM that isn't followed"},
 		{"SELECT DISTINCT i.n " + issues, "issue WHERE project_id IN (7, 8): 1,2"}, {"SELECT i.n " + issues + "OFFSET 3", "OFFSET"},
@@ -210,6 +213,13 @@ func joinAsked(t *testing.T, p *Plan, text string, tokens Tokens) string {
 	for i := range found {
 		name := p.Sources[i].Name
 		found[i].Keys = rows[name[strings.LastIndex(name, condition.Within)+1:]]
+		five, more := "5", make([]*string, len(p.Sources[i].More))
+		for k := range more {
+			more[k] = &five
+		}
+		for _, key := range found[i].Keys {
+			found[i].Beside = append(found[i].Beside, condition.Beside(key, more))
+		}
 	}
 	var all []string
 	for _, q := range p.AsksJoined(text, tokens, with, found, noneBefore, false) {

@@ -52,7 +52,8 @@ type item struct {
 	listed   bool // the rows that an aggregate was made of are listed
 	looked   bool // its rows are looked up by these columns
 	by       []catalog.Column
-	typed    bool // no description shows over which relation the statement is run
+	more     []*catalog.Column // besides its key, on whose values it depends what is asked of other tables
+	typed    bool              // no description shows over which relation the statement is run
 	// If a subquery in FROM passes its columns on: their names in its result, by their own. named means that it names its table.
 	passed map[string]string
 	named  bool
@@ -246,6 +247,9 @@ func (it *item) source() Source {
 		Relation: record.Relation(it.table.OID), Identity: it.table.Identity, Converts: it.converts, Types: types,
 		Nullable: it.nullable, Listed: it.listed || it.looked, Looked: it.looked, Name: it.path,
 	}
+	for _, column := range it.more {
+		source.More = append(source.More, column.Type)
+	}
 	if it.listed || it.typed || it.looked {
 		source.RowType = it.table.RowType
 	}
@@ -253,5 +257,9 @@ func (it *item) source() Source {
 }
 
 func (it *item) relation() relation {
-	return relation{name: it.written, oid: it.table.OID, columns: keyNumbers(it.table), whole: it.listed || it.typed || it.looked}
+	columns := keyNumbers(it.table)
+	for _, column := range it.more {
+		columns = append(columns, column.Number)
+	}
+	return relation{name: it.written, oid: it.table.OID, columns: columns, whole: it.listed || it.typed || it.looked}
 }

@@ -60,3 +60,45 @@ func (t Tokens) texts(text string, from, count int) []string {
 	}
 	return all
 }
+
+// carries lets tables have columns besides their keys among the hidden ones, if it depends on these what is asked of others.
+func (m *maker) carries(p *Plan, body node, found []*item) {
+	if !m.catalog.WithConditions() || p.Kind != Select || !isJoin(body) {
+		return
+	}
+	tables, _ := m.tablesOf("SelectStmt", body)
+	for _, one := range tables {
+		for _, it := range found {
+			if it.path == one.Name && it.passed == nil && !it.looked && !it.listed {
+				it.more = one.More
+			}
+		}
+	}
+}
+
+// tablesOf returns what a statement over several tables asks of each of them.
+func (m *maker) tablesOf(name string, body node) ([]condition.Side, error) {
+	if m.tables == nil {
+		its := &tablesAsked{}
+		its.sides, its.err = condition.Joined(map[string]any{name: map[string]any(body)}, m.joined, m.catalog)
+		m.tables = its
+	}
+	return m.tables.sides, m.tables.err
+}
+
+// tablesAsked is what is made once for a statement.
+type tablesAsked struct {
+	sides []condition.Side
+	err   error
+}
+
+// lacksColumn reports whether a form depends on a column of another table that isn't among the hidden ones.
+func (p *Plan) lacksColumn(of *condition.Form) bool {
+	for _, outer := range of.Outer {
+		source := p.sourceOf(outer.Name)
+		if further := outer.Place - len(outer.Table.Key); further >= 0 && (source < 0 || further >= len(p.Sources[source].More)) {
+			return true
+		}
+	}
+	return false
+}

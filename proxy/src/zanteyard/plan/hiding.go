@@ -40,10 +40,17 @@ func (h *hiding) reads(it *item) {
 	for _, column := range it.table.Key {
 		names = append(names, quote(column.Name))
 	}
+	for _, column := range it.more {
+		names = append(names, quote(column.Name))
+	}
 	h.system(it, names)
 	h.value(h.of(it, "tableoid"))
 	for i, column := range it.table.Key {
 		h.value(keys.Expression(column.Type, h.of(it, names[i]), it.converts))
+	}
+	for i, column := range it.more {
+		its := h.of(it, names[len(it.table.Key)+i])
+		h.value("CASE WHEN " + its + " IS NOT NULL THEN " + keys.Expression(column.Type, its, it.converts) + " END")
 	}
 	if it.typed {
 		h.value(rowType(it.name))

@@ -27,6 +27,7 @@ type maker struct {
 	commons map[string]*withPart
 	crowded bool // too many items of FROM
 	parts   int  // of a UNION, each of which has the hidden columns
+	tables  *tablesAsked
 	// prepared: it is SQL's PREPARE. EXECUTE runs a statement before the server describes its result, so definitions may have
 	// changed in between.
 	prepared bool

@@ -65,7 +65,10 @@ type Source struct {
 	Identity record.Identity // of the table's key
 	Converts bool            // texts come in the server's encoding, as bytea
 	Types    []uint32        // types of the key's columns in the table, as package catalog resolves them
-	Name     string          // by which the statement knows the table, as condition.Side has it
+	// More are the types of columns besides the key, on whose values it depends what the statement asks other tables for. They
+	// come behind the key.
+	More []uint32
+	Name string // by which the statement knows the table, as condition.Side has it
 	// Nullable means that an outer join may leave the whole group NULL: then no row was read.
 	Nullable bool
 	// Listed means that the group is one column: a list of the table's rows that an aggregate was made of.
@@ -85,9 +88,9 @@ func (s Source) Hidden() int {
 	case s.Listed:
 		return 1
 	case s.RowType != 0:
-		return 3 + len(s.Types)
+		return 3 + len(s.Types) + len(s.More)
 	}
-	return 2 + len(s.Types)
+	return 2 + len(s.Types) + len(s.More)
 }
 
 // Plan is what is done with all statements of one normalized text. It never changes after it is made.
@@ -287,6 +290,9 @@ func (p *Plan) HiddenTypes() []uint32 {
 		for _, typeOID := range s.Types {
 			types = append(types, keys.ExpressionType(typeOID, s.Converts))
 		}
+		for _, typeOID := range s.More {
+			types = append(types, keys.ExpressionType(typeOID, s.Converts))
+		}
 		if s.RowType != 0 {
 			types = append(types, oid)
 		}
@@ -305,7 +311,7 @@ func (p *Plan) Converts() bool {
 }
 
 func (s Source) hasText() bool {
-	for _, typeOID := range s.Types {
+	for _, typeOID := range append(s.Types[:len(s.Types):len(s.Types)], s.More...) {
 		if keys.IsText(typeOID) {
 			return true
 		}

@@ -87,6 +87,9 @@ func (m *maker) selectsRows(p *Plan, body node, start, end int) {
 	for _, source := range found {
 		p.Counts = p.Counts || source.listed
 	}
+	if !lists {
+		m.carries(p, body, found)
+	}
 	h := f.hiding()
 	h.window(by)
 	h.one = lists && !distinct && len(f.group) == 0 && m.catalog.WithConditions()

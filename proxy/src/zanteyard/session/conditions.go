@@ -29,6 +29,7 @@ const (
 const (
 	mostFound      = 4096 // rows of one SELECT
 	mostConditions = 64   // conditions of one transaction
+	mostBeside     = 1024 // bytes of a row, beside which another table is asked
 )
 
 // asking is what a statement asks its tables for by conditions, and the rows that it got.
@@ -127,7 +128,7 @@ func (s *Session) gotJoined(a *asking, values [][]byte, isBinary, failed, isWhol
 		return
 	}
 	otherEncoding := !j.plan.Converts() && s.options.Plans != nil && s.converts()
-	ok := isWhole && j.plan.Each(values, isBinary, func(source int, its []record.Read, missing bool) {
+	ok := isWhole && j.plan.Each(values, isBinary, func(source int, its []record.Read, more []*string, missing bool) {
 		found := &j.found[source]
 		if found.Missing, found.Last = found.Missing || missing, ""; len(its) == 1 {
 			found.Last = its[0].Key
@@ -140,6 +141,11 @@ func (s *Session) gotJoined(a *asking, values [][]byte, isBinary, failed, isWhol
 			if !j.known[source][one.Key] {
 				j.known[source][one.Key] = true
 				found.Keys = append(found.Keys, one.Key)
+				if more != nil {
+					found.Beside = append(found.Beside, condition.Beside(one.Key, more))
+					its := string(found.Beside[len(found.Beside)-1])
+					failed = failed || len(its) > mostBeside || otherEncoding && !isASCII(its)
+				}
 			}
 		}
 		kept += len(found.Keys)
@@ -241,7 +247,7 @@ func (s *Session) askedBy(p *plan.Plan, e *expectation, noted *record.Statement,
 		return
 	}
 	cut := a != nil && a.rows >= a.most && !a.writes
-	if cut && (a.most == 0 || a.why == "" && !p.Sorted() && !p.Lists()) { // it might have returned any other rows as well
+	if cut && a.why == "" && (a.most == 0 || p.AsksNothingCut()) {
 		return
 	}
 	if a != nil && a.later != nil && a.why == "" {

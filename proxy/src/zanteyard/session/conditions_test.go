@@ -162,6 +162,10 @@ func TestAsks(t *testing.T) {
 			want: "u WHERE v > 2 AND a IN (1, 2): 1/b5,1/b9,2/b10,2/b6"},
 		{name: "an outer join", texts: []string{"SELECT t.v, u.v FROM t LEFT JOIN u ON u.a = t.id AND u.v > 100 WHERE t.v < 30"},
 			want: "t WHERE v < 30: 1,2; u WHERE v > 100 AND a IN (1, 2): "},
+		{name: "beside columns that aren't in a key", texts: []string{"BEGIN", "SELECT t.v, u.v FROM t LEFT JOIN u ON u.a < t.v AND u.v > 100 WHERE t.v < 30",
+			"SELECT t.v, u.v FROM t LEFT JOIN u ON u.b = t.w WHERE t.v < 30", "SELECT u.v, p.v FROM u LEFT JOIN part AS p ON p.v > u.v WHERE u.a = 1 AND u.b > 'b2'", "COMMIT"},
+			want: "t WHERE v < 30: 1,2; u WHERE v > 100 AND (a < 10 OR a < 20): ; t WHERE v < 30: 1,2; u WHERE b IN ('z', 'row 2'): ; " +
+				"not: an order of texts by a language's rules; part WHERE v > 5 OR v > 9: 120,140,160,180"},
 		{name: "an outer join of nothing", texts: []string{"SELECT t.v, u.v FROM t LEFT JOIN u ON u.a = t.id AND u.v > 100 WHERE t.v < 0"},
 			want: "t WHERE v < 0: ; not: a join of no rows, beside which others could stand"},
 		{name: "a join of no rows", texts: []string{"SELECT t.v, u.v FROM t JOIN u ON u.a = t.id WHERE t.v < 0"},

@@ -234,9 +234,6 @@ func (c *phantomClient) select_(t *phantomTxn, own map[int]bool) error {
 		if it.before = snapOf(row[2]); !it.locks {
 			it.after = it.before
 		}
-		if row[0] == "" { // an outer join left it out
-			continue
-		}
 		key, _ := strconv.Atoi(row[0])
 		switch before, is := it.found[key]; {
 		case !is:

@@ -57,8 +57,7 @@ func (c phantomCondition) shape(number int, table string) phantomShape {
 			"JOIN %s ON p.pid = a WHERE %s", number-3, table, c.text), by: and("with its parent", func(v phantomRow) bool { return v.a == number-3 }),
 			reads: fmt.Sprintf("SELECT name FROM parents WHERE pid = %d", number-3)}
 	case 5:
-		return phantomShape{text: "SELECT s.id, s.tag, pg_current_snapshot(), pid FROM parents LEFT JOIN (SELECT * " + from + ") AS s ON s.a = pid",
-			by: c.inJoin()}
+		return phantomShape{text: "SELECT s.id, s.tag, pg_current_snapshot(), pid FROM (SELECT * " + from + ") AS s LEFT JOIN parents ON pid = s.a", by: c}
 	case 6:
 		return phantomShape{text: "SELECT " + columns + from + " AND id > 0 ORDER BY id LIMIT 2", by: c, limit: 2, order: 1}
 	case 7:
