@@ -18,7 +18,7 @@ from unittest import mock
 from zanteyard.cli._main import main
 from zanteyard.core.errors import ImportRefusedError
 from zanteyard.core import _processes
-from zanteyard.imports import _jepsen
+from zanteyard.imports import _jepsen, _script
 from zanteyard.imports._command import import_text
 from zanteyard.imports._edn import EdnReader
 from zanteyard.imports._guess import history_form
@@ -79,6 +79,24 @@ def as_json_lines(text):
     maps = json.loads(text) if text[0] == "[" else map(json.loads, text.splitlines())
     separators = ((",", ":"), (", ", ": "))[len(text) % 2]
     return "".join(f"{json.dumps(one, separators=separators)}\n" for one in maps)
+
+
+def by_names(imported):
+    """The offers of a script with the names of its keys, and its transactions' names."""
+    keys = imported.names.keys
+
+    def named(reads, writes, *undone):
+        return sorted([keys[key], *map(str, source)] for key, *source in reads), sorted(
+            keys[key] for key in writes), undone
+
+    lines = [json.loads(line) for line in imported.lines]
+    offers = [(*line[:3], [named(*txn) for txn in line[3]]) for line in lines if line[0] == "offer"]
+    names = [
+        [(it.name, it.outcome, it.where, sorted((keys[deed[0]], str(deed[1:]), text)
+                                                for deed, text in it.texts)) for it in session]
+        for session in imported.names.transactions
+    ]
+    return [*offers, *names, *(line for line in lines if line[0] != "offer"), imported.about]
 
 
 def edn(value):
@@ -169,6 +187,22 @@ class Fast(unittest.TestCase):
         with mock.patch.multiple(_jepsen, FRONT=200, BLOCK=300):
             found = import_text("jepsen-registers", txn + read * 100, left_out=["read"])
         self.assertIn("100 operations of read left out", "\n".join(found.about))
+
+    def test_scripts_that_several_processes_write(self):
+        """They say the same, with other numbers for keys."""
+        counted = Counter()
+        for form, text, _ in self.texts(12, 300):
+            found = []
+            for many in (1 << 20, 0):
+                try:
+                    with mock.patch.multiple(_script, MANY=many, PIECE=2), \
+                            mock.patch("os.sched_getaffinity", lambda _: range(4)):
+                        found.append(by_names(import_text(form, text)))
+                except ImportRefusedError as error:
+                    found.append(str(error))
+            self.assertEqual(*found, text)
+            counted[len(found[0]) > 5] += 1
+        self.assertGreater(counted[True], 10)
 
     def test_processes_that_are_not_to_be_had(self):
         """A process that is killed, or can't be begun, costs nothing but time."""

@@ -10,9 +10,10 @@ SIZE = 8  # bytes of a length
 MOST = 3  # processes beside this one, which goes on with what they have made
 
 Part = TypeVar("Part")
+Made = TypeVar("Made")
 
 
-def shared(work: Callable[[Part], Any], parts: Sequence[Part]) -> Iterator[Any]:
+def shared(work: Callable[[Part], Made], parts: Sequence[Part]) -> Iterator[Made | None]:
     """What `work` makes of each part, in order; it must be something that `marshal` can write. The
     parts are dealt to processes which are forked at once, each of which waits at the end of a part
     until this one has taken it. Yields None for a part of which a process made nothing, and ends;
@@ -32,7 +33,7 @@ def shared(work: Callable[[Part], Any], parts: Sequence[Part]) -> Iterator[Any]:
             finally:
                 os.close(writing)
         for at in range(len(parts) if count else 0):
-            found = _received(files[at % count])
+            found: Made | None = _received(files[at % count])
             yield found
             if found is None:
                 return
@@ -46,9 +47,9 @@ def shared(work: Callable[[Part], Any], parts: Sequence[Part]) -> Iterator[Any]:
             os.waitpid(child, 0)
 
 
-def shared_all(work: Callable[[Part], Any], parts: Sequence[Part]) -> list[Any]:
+def shared_all(work: Callable[[Part], Made], parts: Sequence[Part]) -> list[Made]:
     """The same of all parts. What no process has made is made here, and a single part is."""
-    found: list[Any] = []
+    found: list[Made] = []
     for each in shared(work, parts if len(parts) > 1 else []):
         if each is None:
             break

@@ -161,7 +161,9 @@ class _Operations:
             if at != block[2]:
                 return
 
-    def _block(self, block: tuple[int, int, int]) -> Any:
+    def _block(
+        self, block: tuple[int, int, int]
+    ) -> tuple[list[Operation], dict[str, int], tuple[int, int]] | None:
         """What is in a block, and where it ended; None if that needs the file's beginning."""
         lines, self._left_out = self._lines, dict.fromkeys(self._left_out, 0)
         within = lines.is_within()

@@ -5,6 +5,7 @@ from collections.abc import Iterator, Sequence
 from typing import Any
 
 from ..core._own_keys import FORM, LARGE_FORM
+from ..core._processes import shared_all
 from ..core._records import AuditId
 from ..core.errors import ImportRefusedError
 from ..scripts._names import PART, REST, LazyNames, NamedTransaction, ScriptNames
@@ -39,6 +40,7 @@ from ._script_parts import (
 from ._sources import Absent, Origin, Shown, Sources, Stub
 from ._times import EVERY, Times, check_times, part_of, times_of
 
+MANY, PIECE = 8192, 2048  # transactions that several processes write, and a piece of them
 NEVER_OFFERED = 1_000_000_000  # numbers from here on are those of transactions that never arrive
 ROUND, TRUNCATE = '["round",4096,0,1,"guided"]', '["truncate"]'
 
@@ -62,8 +64,8 @@ class _ScriptMaker:
     ) -> None:
         self._recording = recording
         self._attempts = recording.attempts
-        sources = Sources(recording)
-        self._of, self._stubs_read = sources.of, sources.stubs
+        self._sources = Sources(recording)
+        self._of = self._sources.of
         self._is_part = first is not None and first < len(self._attempts)
         self._kept = self._front(first) if first is not None else set(range(len(self._attempts)))
         self._times = Times(self._attempts, self._of) if asks_time else None  # of the whole file
@@ -90,7 +92,7 @@ class _ScriptMaker:
             self._pauses = self._times.pauses(self._every)
         self._put_fences()
         self._places = self._plan.places()
-        offered = [[*self._offered(items)] for items in self._plan.sessions]
+        offered = self._all_offered()
         items: list[list[Item | None]] = [[*session] for session in self._plan.sessions]
         if self._is_part:
             offered[0].append(self._rest())
@@ -282,7 +284,7 @@ class _ScriptMaker:
     def _stubs(self) -> dict[int, list[Stub]]:
         """The sources of reads that can't be real, by owner."""
         stubs_of: dict[int, list[Stub]] = {}
-        for at, stub in self._stubs_read:
+        for at, stub in self._sources.stubs:
             if at in self._kept and stub.owner in self._kept:
                 stubs = stubs_of.setdefault(stub.owner, [])
                 if stub not in stubs:
@@ -302,6 +304,28 @@ class _ScriptMaker:
                     if isinstance(origin, int):
                         before.setdefault(at, []).append(origin)
         return before
+
+    def _all_offered(self) -> list[list[str]]:
+        """The transactions of each session as in a line. Other processes write those of a large
+        history, if all numbers in them are known before."""
+        sessions = self._plan.sessions
+        if len(self._places) < MANY or self._is_part or self._sources.has_absent:
+            return [[*self._offered(items)] for items in sessions]
+        for key in self._sources.keys:
+            self._key(key)
+        pieces = [
+            (session, at)
+            for session, items in enumerate(sessions) for at in range(0, len(items), PIECE)
+        ]
+
+        def written(piece: tuple[int, int]) -> list[str]:
+            session, at = piece
+            return [*self._offered(sessions[session][at : at + PIECE])]
+
+        offered: list[list[str]] = [[] for _ in sessions]
+        for (session, _), texts in zip(pieces, shared_all(written, pieces)):
+            offered[session] += texts
+        return offered
 
     def _offered(self, items: Sequence[Item]) -> Iterator[str]:
         """Transactions of a session as in a line."""

@@ -106,6 +106,9 @@ class Sources:
                             if it.kind == APPEND and it.key == key
                         ]
                     last[key] = at
+        # All keys; those that nobody wrote are added when they are read.
+        self.keys: dict[str, None] = dict.fromkeys(self._writers)
+        self.has_absent = False  # somebody read what nobody in the file has written
         self._chains: dict[str, Chain] = {}
         self.stubs: list[tuple[int, Stub]] = []  # by readers, in the order of `of`
         self.of: dict[int, Reads] = {
@@ -159,6 +162,7 @@ class Sources:
 
     def _read(self, at: int, access: Access, origin: Origin) -> None:
         """Records that the read came from there."""
+        self.keys[access.key] = None
         self.of[at].setdefault((access.key, origin), access)
         if isinstance(origin, int):
             self._took_effect(origin)
@@ -190,6 +194,7 @@ class Sources:
                 f" begins in lines {lines}): which write was read is unknown",
             )
         if not writers:
+            self.has_absent = True
             return Absent(access.key, value)
         if not others:
             return Stub(at, ELSEWHERE)
