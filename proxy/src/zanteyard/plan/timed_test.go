@@ -10,6 +10,7 @@ import (
 
 	"github.com/jackc/pgconn"
 
+	"zanteyard/catalog"
 	"zanteyard/statements"
 )
 
@@ -69,7 +70,7 @@ func TestExecutedByBoth(t *testing.T) {
 	run(t, connection, strings.ReplaceAll(many, "3000", fmt.Sprint(*timedRows)))
 	run(t, connection, "VACUUM ANALYZE")
 	run(t, connection, "SET statement_timeout = '3s'")
-	cache := NewCache(load(t, connection))
+	cache := NewCache(load(t, connection, catalog.OnlyCertainLists))
 	both, other, longer := map[string]int{}, map[string]int{}, map[string]int{}
 	for seed, n := 0, 0; n < *timed && seed < 100**timed; seed++ {
 		text := statements.New(rand.New(rand.NewSource(int64(seed)))).Statement()

@@ -53,6 +53,7 @@ type deeds struct {
 	asked map[string]bool            // tables of which it may have asked for a row that wasn't there
 	wrote map[string]bool            // tables whose rows it updated or deleted, by a condition that passed others over
 	level string                     // that it ran at, if it asked
+	holds bool                       // it has declared a cursor WITH HOLD: more is told of it later
 }
 
 // enemy is a client.
@@ -66,6 +67,7 @@ type enemy struct {
 	mixed  bool   // levels
 	latin  bool   // its encoding
 	its    *deeds
+	held   *deeds // of the transaction that has declared its cursor WITH HOLD, nil if it has none
 	shared *battlefield
 }
 
@@ -170,6 +172,9 @@ func (e *enemy) write(text string) error {
 // statement runs one in a block.
 func (e *enemy) statement(tag string) error {
 	i, j, f := e.r.Intn(24), e.r.Intn(8), fmt.Sprintf
+	if e.held != nil && e.r.Intn(12) == 0 {
+		return e.fetch()
+	}
 	word := []string{"e", "é", "Ã©", "日"}[e.r.Intn(4)]
 	colour := []string{"red", "green", "blue"}[e.r.Intn(3)]
 	switch e.r.Intn(40) {
@@ -270,6 +275,38 @@ func (e *enemy) cursor(i int) error {
 	return e.write("CLOSE c")
 }
 
+// hold declares a cursor WITH HOLD, in the place of the one before.
+func (e *enemy) hold(tag string) error {
+	if e.held != nil {
+		e.held = nil
+		if err := e.write("CLOSE held"); err != nil {
+			return err
+		}
+	}
+	err := e.write(fmt.Sprintf("DECLARE held CURSOR WITH HOLD FOR SELECT id, tag FROM one WHERE id >= %d ORDER BY id /*tag='%s'*/", e.r.Intn(20), tag))
+	if err == nil {
+		e.held, e.its.holds = e.its, true
+	}
+	return err
+}
+
+// fetch returns rows of that cursor: its transaction has read them.
+func (e *enemy) fetch() error {
+	if e.held == nil {
+		return nil
+	}
+	rows, err := e.run(e.inEncoding(fmt.Sprintf("FETCH %d FROM held", 1+e.r.Intn(5))), e.r.Intn(2) == 0)
+	if err == nil {
+		e.shared.lock.Lock()
+		defer e.shared.lock.Unlock()
+		was := e.its
+		e.its = e.held
+		e.note("one", rows)
+		e.its = was
+	}
+	return err
+}
+
 var levelNames = []string{"READ COMMITTED", "REPEATABLE READ", "SERIALIZABLE"}
 
 // begin begins a block, at a level that is set in one of many ways.
@@ -313,6 +350,10 @@ func (e *enemy) transaction() error {
 	switch e.r.Intn(12) {
 	case 0:
 		err = e.pipeline(tag)
+	case 2: // a cursor that outlives it
+		err = e.hold(tag)
+	case 3:
+		err = e.fetch()
 	case 1: // by itself
 		err = e.read("one", fmt.Sprintf("SELECT id, tag FROM one WHERE id = %d /*tag='%s'*/", e.r.Intn(24), tag))
 	default:
@@ -492,7 +533,8 @@ func fight(t *testing.T, level string, more ...string) {
 		judge.g.check(t, level != "serializable")
 	}
 	t.Logf("%v: of %d committed %d transactions were told, with %d reads, of which %d were compared and %d are of what was passed over, "+
-		"and %d levels", time.Since(began), b.commits.Load(), len(judge.g.names)-judge.g.fences, judge.reads, judge.compared, judge.passed,
+		"%d of cursors WITH HOLD, and %d levels", time.Since(began), b.commits.Load(), len(judge.g.names)-judge.g.fences, judge.reads,
+		judge.compared, judge.passed, judge.held,
 		judge.levels)
 	if judge.compared < *enemies/4 || judge.passed < *enemies/100 || mixed && judge.levels < *enemies/4 {
 		t.Error("too little was compared")

@@ -21,6 +21,7 @@ type referee struct {
 	wrote                   map[string]map[string]bool // the rows, by name
 	reads, compared, levels int
 	passed                  int // reads of what conditions passed over
+	held                    int // and of cursors WITH HOLD
 }
 
 type enemyTold struct {
@@ -173,6 +174,12 @@ func (j *referee) compare(its []enemyTold) {
 		}
 		j.b.lock.Lock()
 		did := j.b.deeds[tag]
+		if did != nil && did.holds {
+			j.compareReads(tag, it, did)
+			j.held += len(it.Reads)
+			j.b.lock.Unlock()
+			continue
+		}
 		delete(j.b.deeds, tag)
 		j.b.lock.Unlock()
 		if did == nil {

@@ -139,6 +139,7 @@ var kinds = []struct {
 	{"SELECT a.v, b.v FROM counted a JOIN counted b ON a.id < b.id AND b.id < 4", amount{1, 0, 1, 0, 3, 0}},
 	{"SELECT a.v, k.v FROM counted a LEFT JOIN keyless k ON false", amount{1, 0, 1, 0, 5, 0}},
 	{"BEGIN; DECLARE c CURSOR FOR SELECT v FROM counted; FETCH 2 FROM c; FETCH ALL FROM c; COMMIT", amount{1, 0, 1, 0, 5, 0}},
+	{"DECLARE c CURSOR WITH HOLD FOR SELECT v FROM counted; FETCH 2 FROM c; FETCH ALL FROM c; CLOSE c", amount{3, 0, 1, 0, 5, 0}},
 	{"SELECT count(v) FROM counted WHERE v < -9", amount{1, 0, 1, 0, 1, 0}},
 	{"BEGIN; DECLARE c CURSOR FOR SELECT count(v) FROM counted WHERE v < -9; FETCH ALL FROM c; COMMIT", amount{1, 0, 1, 0, 1, 0}},
 	{"BEGIN; DECLARE c CURSOR FOR SELECT v FROM counted WHERE v < -9; FETCH ALL FROM c; COMMIT", amount{1, 0, 1, 0, 0, 0}},
