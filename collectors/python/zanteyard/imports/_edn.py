@@ -8,7 +8,6 @@ were written.
 import re
 from collections.abc import Iterator
 from dataclasses import dataclass
-from typing import Any
 
 from ..core.errors import ImportRefusedError
 
@@ -44,11 +43,14 @@ class EdnMap:
     """A map, and the line on which it begins, from 1. Its items are in the file's order."""
 
     line: int
-    items: tuple[tuple[Any, Any], ...]
+    items: "tuple[tuple[Edn, Edn], ...]"
 
-    def get(self, name: str) -> Any:
+    def get(self, name: str) -> "Edn":
         """The value of this keyword; None if there is none."""
         return next((value for key, value in self.items if key == Keyword(name)), None)
+
+
+Edn = None | int | str | Keyword | Opaque | EdnMap | tuple["Edn", ...]  # a value
 
 
 class EdnReader:
@@ -61,14 +63,14 @@ class EdnReader:
         self._at = at
         self._line, self._counted = line, at  # the line of the place up to which lines were counted
 
-    def forms(self) -> Iterator[tuple[int, Any]]:
+    def forms(self) -> Iterator[tuple[int, Edn]]:
         """The top-level forms, each with the line on which it begins."""
         while not self.is_over():
             line = self.line()
             for form in self.form():
                 yield line, form
 
-    def form(self) -> list[Any]:
+    def form(self) -> list[Edn]:
         """The next form, in a list; an empty list if it was discarded by `#_`."""
         return self._form(0)
 
@@ -109,7 +111,7 @@ class EdnReader:
     def _refused(self, why: str) -> ImportRefusedError:
         return ImportRefusedError(self.line(), why)
 
-    def _form(self, depth: int) -> list[Any]:
+    def _form(self, depth: int) -> list[Edn]:
         """The next form, in a list; an empty list if `#_` discards it."""
         if depth > DEEPEST:
             raise self._refused(f"forms are nested more than {DEEPEST} deep")
@@ -147,7 +149,7 @@ class EdnReader:
             lambda escape: chr(int(escape[1], 16)) if escape[1] else ESCAPED[escape[2]], match[1]
         )
 
-    def _dispatched(self, depth: int) -> list[Any]:
+    def _dispatched(self, depth: int) -> list[Edn]:
         """A form that begins with `#`: a set, something discarded, or a tag and its value. A tagged
         map counts as the map."""
         start = self._at
@@ -163,15 +165,15 @@ class EdnReader:
         tag = self._taken(TOKEN, "a tag")
         if not tag[0].isalpha():
             raise self._refused(f"#{tag} isn't a tag")
-        forms: list[Any] = []
+        forms: list[Edn] = []
         while not forms:
             forms = self._form(depth + 1)
         return forms if isinstance(forms[0], EdnMap) else [Opaque(self._text[start : self._at])]
 
-    def _many(self, opening: str, depth: int) -> list[Any]:
+    def _many(self, opening: str, depth: int) -> list[Edn]:
         line = self.line()
         self._at += 1
-        forms: list[Any] = []
+        forms: list[Edn] = []
         while True:
             if self.is_over():
                 raise ImportRefusedError(line, f"the {opening} here isn't closed")
@@ -180,14 +182,14 @@ class EdnReader:
                 return forms
             forms += self._form(depth + 1)
 
-    def _collection(self, opening: str, depth: int) -> Any:
+    def _collection(self, opening: str, depth: int) -> Edn:
         line = self.line()
         forms = self._many(opening, depth)
         if opening != "{":
             return tuple(forms)
         if len(forms) % 2:
             raise ImportRefusedError(line, "a map has a key without a value")
-        items: dict[Any, Any] = {}
+        items: dict[Edn, Edn] = {}
         for key, value in zip(forms[::2], forms[1::2]):
             if key in items:
                 raise ImportRefusedError(line, "a map has a key twice")
@@ -195,7 +197,7 @@ class EdnReader:
         return EdnMap(line, tuple(items.items()))
 
 
-def scalar_of(text: str) -> Any:
+def scalar_of(text: str) -> Edn:
     """The value of a word without delimiters."""
     if text == "nil":
         return None

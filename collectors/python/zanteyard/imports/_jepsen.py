@@ -15,6 +15,7 @@ from ._plain_lines import (
     WORDS,
     EdnLines,
     JsonLines,
+    Mapped,
     Micro,
     PlainLines,
     PlainMicros,
@@ -200,7 +201,7 @@ class _Operations:
             value == other or micros is not None and value == self._plain.asked(micros)
         )
 
-    def _operation(self, line: int, found: Any) -> Operation | None:
+    def _operation(self, line: int, found: Mapped) -> Operation | None:
         """The operation in a map; None for one of the nemesis."""
         process = found.get("process")
         if _word(process) == "nemesis":

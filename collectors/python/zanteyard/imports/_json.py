@@ -3,14 +3,14 @@
 import json
 import re
 from collections.abc import Iterator
-from typing import Any, NoReturn
+from typing import NoReturn
 
 from ..core.errors import ImportRefusedError
 
 SPACE = re.compile(r"[ \t\r\n]*")
 
 
-def _object(pairs: list[tuple[str, Any]]) -> dict[str, Any]:
+def _object(pairs: list[tuple[str, object]]) -> dict[str, object]:
     whole = dict(pairs)
     if len(whole) != len(pairs):
         raise ValueError("an object has the same name twice")
@@ -34,7 +34,7 @@ class JsonReader:
         self._at = at
         self._line, self._counted = line, at  # the line of the place up to which lines were counted
 
-    def elements(self) -> Iterator[tuple[int, Any]]:
+    def elements(self) -> Iterator[tuple[int, object]]:
         """The elements of the text's array; or, if it is none, its values, one after another."""
         self._skip()
         if not self._text.startswith("[", self._at):
@@ -62,11 +62,12 @@ class JsonReader:
         """How far it has read, and on which line that is."""
         return self._at, self._line_here()
 
-    def value(self) -> tuple[int, Any]:
+    def value(self) -> tuple[int, object]:
         """The next value."""
         self._skip()
         line = self._line_here()
         try:
+            parsed: object
             parsed, self._at = DECODER.raw_decode(self._text, self._at)
         except (ValueError, RecursionError) as error:
             at = getattr(error, "pos", self._at)

@@ -7,7 +7,7 @@ or JSON. A line that doesn't fit exactly is left to these, so that both give the
 
 import re
 from collections.abc import Iterator, Sequence
-from typing import Any, NamedTuple
+from typing import NamedTuple
 
 from ..core.errors import ImportRefusedError
 from ._edn import CLOSING, EdnMap, EdnReader, Keyword
@@ -20,6 +20,9 @@ GROUPS = ("type", "process", "index", "time", "part", "value")
 NEEDED = {"type", "f", "process", "value"}
 MOST_SHAPES = 8
 WORDS = {READ: "r", READ_LIST: "r", WRITE: "w", APPEND: "append"}
+# A map of the file; the groups of a plain line, in a tuple.
+Mapped = EdnMap | dict[str, object]
+Found = Mapped | tuple[str, ...]
 # A micro-operation as its kind, key, value and text, which an Access has.
 Micro = tuple[str, str, Value, str]
 
@@ -170,7 +173,7 @@ class PlainLines:
         self._shapes: list[Shape] = []  # the one that matched last comes first
         self._known: set[tuple[str, ...]] = set()  # keys of which a shape was made
 
-    def maps(self) -> Iterator[tuple[int, Any]]:
+    def maps(self) -> Iterator[tuple[int, Found]]:
         """All maps, in order: a client's operation on transactions on a plain line as the GROUPS of
         its shape, in a tuple, any other map as the strict reader returns it."""
         while self._at < self.end:
@@ -199,11 +202,11 @@ class PlainLines:
         """What is being read that has more than one map; None or False if nothing is."""
         return None
 
-    def _slowly(self) -> Iterator[tuple[int, Any]]:
+    def _slowly(self) -> Iterator[tuple[int, Found]]:
         """Reads forms up to one that ends its line, or to the end."""
         raise NotImplementedError
 
-    def _learn(self, names: Sequence[Any]) -> None:
+    def _learn(self, names: Sequence[str]) -> None:
         """Learns from the keys of a map that was read strictly."""
         if self._is_strict or len(self._shapes) == MOST_SHAPES or (*names,) in self._known:
             return
@@ -221,12 +224,12 @@ class EdnLines(PlainLines):
     def is_within(self) -> object:
         return self._opened
 
-    def maps(self) -> Iterator[tuple[int, Any]]:
+    def maps(self) -> Iterator[tuple[int, Found]]:
         yield from super().maps()
         if self._opened and self._at >= len(self._text):
             raise ImportRefusedError(self._opened[0], "the vector here isn't closed")
 
-    def _slowly(self) -> Iterator[tuple[int, Any]]:
+    def _slowly(self) -> Iterator[tuple[int, Found]]:
         reader = EdnReader(self._text, self._at, self._line)
         while not reader.is_over():
             line, sign = reader.line(), reader.sign()
@@ -240,9 +243,9 @@ class EdnLines(PlainLines):
                 for form in reader.form():
                     if not isinstance(form, EdnMap):
                         raise ImportRefusedError(line, "an operation must be a map")
-                    keys = [key for key, _ in form.items]
-                    if all(isinstance(key, Keyword) for key in keys):
-                        self._learn([key.name for key in keys])
+                    names = [key.name for key, _ in form.items if isinstance(key, Keyword)]
+                    if len(names) == len(form.items):
+                        self._learn(names)
                     yield form.line, form
             if reader.ends_line():
                 break
@@ -252,14 +255,14 @@ class EdnLines(PlainLines):
 class JsonLines(PlainLines):
     """The objects of a text in JSON, one after another, or in one array."""
 
-    def maps(self) -> Iterator[tuple[int, Any]]:
+    def maps(self) -> Iterator[tuple[int, Found]]:
         if self._at == 0 and self._text.lstrip()[:1] == "[":
             yield from map(_object, JsonReader(self._text).elements())
             self._at = len(self._text)
         else:
             yield from super().maps()
 
-    def _slowly(self) -> Iterator[tuple[int, Any]]:
+    def _slowly(self) -> Iterator[tuple[int, Found]]:
         reader = JsonReader(self._text, self._at, self._line)
         if not reader.is_over():
             line, found = _object(reader.value())
@@ -268,7 +271,8 @@ class JsonLines(PlainLines):
         self._at, self._line = reader.place()
 
 
-def _object(element: tuple[int, Any]) -> tuple[int, Any]:
-    if not isinstance(element[1], dict):
-        raise ImportRefusedError(element[0], "an operation must be an object")
-    return element
+def _object(element: tuple[int, object]) -> tuple[int, dict[str, object]]:
+    line, found = element
+    if not isinstance(found, dict):
+        raise ImportRefusedError(line, "an operation must be an object")
+    return line, found

@@ -2,13 +2,12 @@
 sessions, with which numbers, and their names."""
 
 from collections.abc import Iterator, Sequence
-from typing import Any
 
 from ..core._own_keys import FORM, LARGE_FORM
 from ..core._processes import shared_all
 from ..core._records import AuditId
 from ..core.errors import ImportRefusedError
-from ..scripts._names import PART, REST, LazyNames, NamedTransaction, ScriptNames
+from ..scripts._names import PART, REST, Deed, LazyNames, NamedTransaction, ScriptNames
 from ..scripts._times import ScriptTimes
 from ..promises._asking import LIMIT, MOST, MOST_SESSIONS, SESSIONS
 from ._recording import (
@@ -30,7 +29,6 @@ from ._script_parts import (
     Item,
     Plan,
     all_before,
-    ascending,
     in_text,
     keys_of,
     named_stub,
@@ -359,16 +357,18 @@ class _ScriptMaker:
                 yield self._other_name(item)
                 continue
             name, _, outcome, accesses, _, where, *_ = self._attempts[item]
-            texts: list[tuple[Sequence[Any], str]] = []
+            rows: list[tuple[int, int, int, str]] = []
             for (key, origin), deed in self._of[item].items():
                 source = places.get(origin) if isinstance(origin, int) else None
-                session, number = source or self._source(origin)
                 text = shown(deed) if isinstance(deed, Access) else self._shown(deed)
-                texts.append((
-                    (keys[key], session, number) if number >= 0 else (keys[key], "init"), text
-                ))
-            if len(texts) > 1:
-                texts.sort(key=ascending)
+                rows.append((keys[key], *(source or self._source(origin)), text))
+            rows.sort()
+            texts: list[tuple[Deed, str]] = []
+            for key_number, session, number, text in rows:
+                read: Deed = (key_number, "init")
+                if number >= 0:
+                    read = key_number, session, number
+                texts.append((read, text))
             written = [it for it in accesses if it[0] == APPEND or it[0] == WRITE]
             if len(written) == 1:
                 texts.append(((keys[written[0][1]],), shown(written[0])))
@@ -387,7 +387,7 @@ class _ScriptMaker:
         named = named_stub(item, self._attempts)
         return named._replace(texts=self._writes(item.owner)) if self._is_told(item) else named
 
-    def _writes(self, at: int) -> tuple[tuple[Sequence[Any], str], ...]:
+    def _writes(self, at: int) -> tuple[tuple[Deed, str], ...]:
         """The keys that an attempt wrote, each with the file's text of its writes."""
         texts = written_by(self._attempts[at], self._recording.shown)
         return tuple(sorted(((self._keys[key],), text) for key, text in texts.items()))

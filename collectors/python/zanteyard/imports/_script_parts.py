@@ -3,7 +3,6 @@
 import functools
 from collections.abc import Callable, Iterator, Sequence
 from dataclasses import dataclass, field
-from typing import Any
 
 from ..core._records import AuditId
 from ..scripts._names import NamedTransaction, ScriptNames
@@ -70,11 +69,6 @@ def in_text(reads: Sequence[tuple[int, int, int]]) -> str:
         f"[{key},{session},{number}]" if number >= 0 else f'[{key},"init"]'
         for key, session, number in reads
     ])
-
-
-def ascending(named_read: tuple[Sequence[Any], str]) -> tuple[int, ...]:
-    key, *source = named_read[0]
-    return (key, -1, -1) if source[0] == "init" else (key, *source)
 
 
 def all_before(before: dict[Item, list[Item]], end: Item) -> set[Item]:

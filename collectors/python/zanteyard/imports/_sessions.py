@@ -6,7 +6,6 @@ import io
 import re
 from collections.abc import Iterator, Sequence
 from dataclasses import dataclass, field
-from typing import Any
 
 from ..core.errors import ImportRefusedError
 from ._json import JsonReader
@@ -195,7 +194,7 @@ def read_dbcop(text: str, initial: str = "0") -> Recording:
     return recorded.recording("dbcop", last_line)
 
 
-def _dbcop_sessions(text: str) -> Iterator[tuple[int, Any]]:
+def _dbcop_sessions(text: str) -> Iterator[tuple[int, object]]:
     """Each session with its line; if they are in an object, with the object's line."""
     reader = JsonReader(text)
     if text.lstrip()[:1] == "[":
@@ -212,7 +211,7 @@ def _dbcop_sessions(text: str) -> Iterator[tuple[int, Any]]:
 
 
 def _dbcop_transaction(
-    transaction: Any, recorded: _RecordedTransaction, where: str, initial: str
+    transaction: object, recorded: _RecordedTransaction, where: str, initial: str
 ) -> None:
     if not isinstance(transaction, dict) or set(transaction) != {"events", "success"}:
         raise ImportRefusedError(recorded.line, f"{where}: it must have events and success")

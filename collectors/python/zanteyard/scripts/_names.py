@@ -20,13 +20,17 @@ VERSION = 1
 PIECE = 2048  # transactions whose names a process writes at a time
 
 
+# A read as its key and source, (5, "init") or (5, 0, 1), or a write as its key alone.
+Deed = Sequence[int | str]
+
+
 class NamedTransaction(NamedTuple):
     """A transaction's name. `texts` are the reads and writes in the script's form, a write as
     [key], each with its text in the original file."""
 
     name: str
     outcome: str
-    texts: tuple[tuple[Sequence[Any], str], ...] = ()
+    texts: tuple[tuple[Deed, str], ...] = ()
     where: str = ""  # what else the original file calls it
 
 

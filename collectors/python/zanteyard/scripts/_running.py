@@ -254,7 +254,7 @@ def logged_of(
     outcome, texts, where = "committed", [], ""
     if named is not None:
         outcome, where = named.outcome, named.where
-        texts = [(deed_of(*deed), text) for deed, text in named.texts]
+        texts = [(deed_of(int(key), *source), text) for (key, *source), text in named.texts]
     if is_undone:
         return Logged((), (), ABORTED, texts, (), 0.0, where, sources, written_keys)
     return Logged(sources, written_keys, outcome, texts, caller=where)
