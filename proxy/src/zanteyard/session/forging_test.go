@@ -97,6 +97,7 @@ func TestOthersForge(t *testing.T) {
 		"a COPY":                     {does: []string{"COPY (SELECT one(1)) TO STDOUT"}},
 		"EXPLAIN":                    {does: []string{"EXPLAIN ANALYZE SELECT one(1)"}},
 		"a cursor":                   {does: []string{"BEGIN", "DECLARE c CURSOR FOR SELECT one(1)", "FETCH c"}},
+		"a cursor WITH HOLD":         {does: []string{"BEGIN", "DECLARE c CURSOR WITH HOLD FOR SELECT one(1)", "COMMIT", "BEGIN"}},
 		"EXECUTE":                    {does: []string{"PREPARE x AS SELECT one(1)", "EXECUTE x"}},
 		"several":                    {does: []string{"SELECT 1; SELECT one(1); SELECT 2"}},
 		"an operator":                {does: []string{"SELECT v FROM t WHERE id = 1 AND v @@@@ 3"}, after: "CREATE OPERATOR m.@@@@ (LEFTARG = int, RIGHTARG = int, FUNCTION = m.same);"},
@@ -148,6 +149,59 @@ func TestOthersForge(t *testing.T) {
 						t.Errorf("told %+v, and the client asked for %+v", one, is)
 					}
 				}
+			}
+		})
+	}
+}
+
+// TestPlantedCursor: what somebody has put in the place of a client's cursor may run anything as the client fetches from it: what
+// the proxy had prepared before isn't used afterwards.
+func TestPlantedCursor(t *testing.T) {
+	needServer(t)
+	run := messages('Z', &pgproto3.Bind{PreparedStatement: "s"}, &pgproto3.Execute{}, &pgproto3.Sync{})
+	for name, before := range map[string][]string{
+		"of the transaction": {"BEGIN", "DECLARE planted CURSOR FOR SELECT v FROM t WHERE id = 1"},
+		"WITH HOLD":          {"DECLARE planted CURSOR WITH HOLD FOR SELECT v FROM t WHERE id = 1", "BEGIN"},
+	} {
+		t.Run(name, func(t *testing.T) {
+			sql(t, fill)
+			sql(t, forging+`CREATE FUNCTION m.plants() RETURNS int LANGUAGE plpgsql AS $$BEGIN EXECUTE 'CLOSE planted';
+				EXECUTE 'DECLARE planted CURSOR FOR SELECT v, xmin AS zanteyard, tableoid AS zanteyard, concat(id, left(m.forge()::text, 0)) AS zanteyard
+				FROM public.t WHERE id > 2'; RETURN 1; END$$;`+forged)
+			d, err := definitions.Open(context.Background(), config(), time.Hour, func(string) {})
+			if err != nil {
+				t.Fatal(err)
+			}
+			p := through(t, "forged", func(o *Options) { o.Plans, o.Generation, o.Shared = d, d.Generation, nil })
+			p.query("SET search_path TO m, public")
+			p.do(messages('Z', &pgproto3.Parse{Name: "s", Query: "SELECT v FROM t WHERE id = 1"}, &pgproto3.Sync{}))
+			p.warm(append(append([]string{"SELECT v FROM t WHERE id = 1"}, before...), "COMMIT", "CLOSE ALL")...)
+			for _, text := range append(before, "SELECT plants()") {
+				p.query(text)
+			}
+			for i := 0; i < 3; i++ {
+				p.do(run)
+			}
+			p.settle()
+			p.do(run)
+			p.query("FETCH planted")
+			for i := 0; i < 3; i++ {
+				p.do(run)
+			}
+			p.query("COMMIT")
+			p.do(run)
+			p.settle()
+			p.do(run)
+			reads := 0
+			for _, it := range p.sink.take() {
+				for _, one := range it.Reads {
+					if reads++; one.Key != "1" {
+						t.Errorf("told %+v, and the client asked for 1", one)
+					}
+				}
+			}
+			if reads < 2 {
+				t.Errorf("%d reads were told", reads)
 			}
 		})
 	}

@@ -81,8 +81,8 @@ func (s *Session) changes(p *plan.Plan) {
 func (s *Session) isForeign(p *plan.Plan) bool {
 	switch p.Kind {
 	case plan.Fetch:
-		of := s.names.cursors[p.Name]
-		return !s.trust.declared[p.Name] && (of == nil || of.plan.Foreign)
+		of := s.names.cursors[p.Name] // another one may be in the place of one from an older era
+		return !s.trust.declared[p.Name] && (of == nil || of.plan.Foreign || of.era != s.trust.era)
 	case plan.Execute:
 		of := s.names.prepared[p.Name]
 		return of == nil || of.plan == nil || of.plan.Foreign || of.others != s.trust.others
