@@ -66,6 +66,11 @@ var joined = []struct{ from, why string }{
 	{"a LEFT JOIN b ON b.a_id = a.id WHERE a.x = 1 AND 1 = 0", "|"},
 	{"a LEFT JOIN b ON b.a_id = a.id WHERE a.x = 1 AND EXISTS (SELECT 1 FROM c WHERE c.n = 99)", "|"},
 	{"a LEFT JOIN b ON b.a_id = a.id WHERE a.x = 1 AND NOT EXISTS (SELECT 1 FROM c WHERE c.n = 99)", "||"},
+	// Beside no rows of the others nothing was asked for.
+	{"a LEFT JOIN b ON b.z IN (0, 1, 2, 3) WHERE a.x = 99", "|"},
+	{"a, b WHERE a.x = 99 AND b.z IN (0, 1, 2, 3)", "|"},
+	// One condition over two others' rows.
+	{"a, b, c WHERE (c.n = a.id OR c.n = b.id) AND c.z IS NOT NULL", "||a condition over three tables"},
 	// Names with a schema, and with a database.
 	{"a JOIN b ON public.a.id = b.a_id WHERE public.b.z = 1", "|"},
 	{"a JOIN c ON c.id = a.id AND public.c.n = 1", "|"},
@@ -360,6 +365,45 @@ func keyText(table, name string) string {
 		return name + ".id::text || '/' || " + name + ".n::text"
 	}
 	return name + ".id::text"
+}
+
+// TestBesideManyRows: a condition is compared with only so many rows of another table, unless it is one of equality.
+func TestBesideManyRows(t *testing.T) {
+	_, all := open(t, "beside_many_rows", joinsSchema)
+	for on, want := range map[string][2]string{
+		"c.n = a.id": {"c WHERE n IN (", "c WHERE n IN ("}, "c.n < a.id": {"c WHERE n < '", "a join beside more rows than are compared"},
+		"(c.n = a.id OR c.z = a.id)": {"c WHERE n = 0 OR z = 0 OR", "a join beside more rows than are compared"},
+	} {
+		text := "SELECT * FROM a, c WHERE " + on
+		stmt, err := parsed(t, text)
+		if err != nil {
+			t.Fatal(err)
+		}
+		sides, err := condition.Joined(stmt, text, all)
+		if err != nil || sides[1].Form == nil {
+			t.Fatalf("%s: %v", on, err)
+		}
+		for i, count := range []int{64, 65} {
+			with := condition.Arguments{HasRows: true, Beside: map[string][]record.Key{}}
+			for n := 0; n < count; n++ {
+				with.Beside["a"] = append(with.Beside["a"], record.Key(fmt.Sprint(n)))
+			}
+			its, err := sides[1].Form.Bind(with)
+			got := fmt.Sprint(err)
+			if err == nil {
+				got = its.String()
+				if holds := its.Holds(row("9", "63", "70")) == condition.Yes; holds != (on != "c.n < a.id") {
+					t.Errorf("%s beside %d rows holds: %v", on, count, holds)
+				}
+			}
+			if !strings.HasPrefix(got, strings.TrimSuffix(want[i], "'")) {
+				t.Errorf("%s beside %d rows: %s", on, count, got)
+			}
+		}
+		if _, err := sides[1].Form.Bind(condition.Arguments{HasRows: true}); err == nil {
+			t.Errorf("%s beside no row is followed", on)
+		}
+	}
 }
 
 // subqueries has, for each statement, what it asks of its own tables, and then of those of subqueries that found nothing.
