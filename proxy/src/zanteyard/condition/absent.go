@@ -55,9 +55,10 @@ func (j *joins) absent(statement map[string]any, text string) (all []Side) {
 		if !is {
 			continue
 		}
-		side := Side{Absent: true}
+		side, before := Side{Absent: true}, j.mores()
 		if side.Form, side.Why = j.inQuery(query, tested, statement, text); side.Why != nil {
 			side.Form = nil
+			j.without(before)
 		} else {
 			side.Name = side.Form.Name
 		}

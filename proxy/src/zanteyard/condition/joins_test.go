@@ -17,7 +17,7 @@ import (
 
 const joinsSchema = `CREATE TABLE a (id int PRIMARY KEY, x int, t text); CREATE TABLE b (id int PRIMARY KEY, a_id int, z int, t text);
 	CREATE TABLE c (id int, n int, z int, PRIMARY KEY (id, n)); CREATE TABLE secured (id int PRIMARY KEY, a_id int);
-	ALTER TABLE secured ENABLE ROW LEVEL SECURITY; CREATE VIEW viewed AS SELECT * FROM a;`
+	ALTER TABLE secured ENABLE ROW LEVEL SECURITY; CREATE VIEW viewed AS SELECT * FROM a; CREATE DOMAIN small AS int;`
 
 // joined has, for each join, why each of its tables isn't followed, or "" if it is.
 var joined = []struct{ from, why string }{
@@ -71,6 +71,10 @@ var joined = []struct{ from, why string }{
 	{"a, b WHERE a.x = 99 AND b.z IN (0, 1, 2, 3)", "|"},
 	// One condition over two others' rows.
 	{"a, b, c WHERE (c.n = a.id OR c.n = b.id) AND c.z IS NOT NULL", "||a condition over three tables"},
+	// A name means a table of the subquery around it, and not of one beside it.
+	{"a JOIN b ON a.id = b.id WHERE EXISTS (SELECT 1 FROM c WHERE b.z = c.z AND EXISTS (SELECT 1 FROM b WHERE b.id = 0))",
+		"a function or subquery over other tables|a function or subquery over other tables"},
+	{"a JOIN b ON a.id = b.id AND a.x::small = 1", "an expression over a column|a function or subquery over other tables"},
 	// Names with a schema, and with a database.
 	{"a JOIN b ON public.a.id = b.a_id WHERE public.b.z = 1", "|"},
 	{"a JOIN c ON c.id = a.id AND public.c.n = 1", "|"},
@@ -218,6 +222,9 @@ func compareAbsent(t *testing.T, conn *pgconn.PgConn, from string, side conditio
 	with := condition.Arguments{Beside: map[string][]record.Key{}}
 	with.HasRows = rows(t, conn, "SELECT count(*) FROM "+from)[0][0] != "0"
 	for _, outer := range side.Form.Outer {
+		if outer.Place >= len(outer.Table.Key) { // TestJoined has those
+			return 0
+		}
 		if with.Beside[outer.Name] != nil {
 			continue
 		}
@@ -428,7 +435,7 @@ var subqueries = []struct{ from, want string }{
 	// An inner name means a column of the inner table, if that has it.
 	{"a WHERE NOT EXISTS (SELECT 1 FROM b WHERE b.a_id = id)", "a subquery; a comparison of two columns"},
 	{"a WHERE NOT EXISTS (SELECT 1 FROM b WHERE a_id = a.id AND b.z = 1)", "a subquery; b WHERE z = 1 AND a_id IN (..)"},
-	{"a WHERE NOT EXISTS (SELECT 1 FROM b WHERE a_id = x)", "a subquery; a column of another table that isn't in its key"},
+	{"a WHERE NOT EXISTS (SELECT 1 FROM b WHERE a_id = x)", "a subquery; b WHERE a_id IN (..)"},
 	{"a WHERE x = 1 AND NOT EXISTS (SELECT 1 FROM b WHERE b IS NULL)", "a WHERE x = 1; an unknown column"},
 	{"a WHERE x = 1 AND NOT EXISTS (SELECT 1 FROM c WHERE a IS NULL)", "a subquery; an unknown column"},
 	{"a WHERE x = 1 AND NOT EXISTS (SELECT 1 FROM c WHERE ctid IS NULL)", "a WHERE x = 1; an unknown column"},
@@ -454,7 +461,7 @@ var subqueries = []struct{ from, want string }{
 	{"a WHERE x = 1 AND random() < 2 AND NOT EXISTS (SELECT 1 FROM c WHERE n = 77)", "a subquery; c WHERE n = 77"},
 	// Beside rows of several tables.
 	{"a JOIN b ON a.id = b.a_id WHERE NOT EXISTS (SELECT 1 FROM c WHERE c.id = a.id AND c.n = 3 AND c.z = b.id)",
-		"a column of another table that isn't in its key; a subquery; a condition over three tables"},
+		"a subquery; a subquery; a condition over three tables"},
 	{"a JOIN b ON a.id = b.a_id WHERE NOT EXISTS (SELECT 1 FROM c WHERE c.id = b.id AND c.n = 3)",
 		"a column of another table that isn't in its key; a subquery; c WHERE n = 3 AND id IN (..)"},
 	{"a LEFT JOIN b ON a.id = b.a_id AND NOT EXISTS (SELECT 1 FROM c WHERE c.n = 3)", "a; a subquery"},
