@@ -626,3 +626,29 @@ func TestJoinsOfOtherNames(t *testing.T) {
 		}
 	}
 }
+
+// TestBesideEmptyTables: a join with an empty table has no rows, so it has passed nothing of its other tables over.
+func TestBesideEmptyTables(t *testing.T) {
+	_, all := open(t, "beside_empty_tables", joinsSchema)
+	for from, want := range map[string][]bool{
+		"a LEFT JOIN b ON b.z = 1": {false, true}, "a, b WHERE b.z = 1": {true, true}, "a JOIN b ON true": {true, true},
+	} {
+		text := "SELECT * FROM " + from
+		stmt, err := parsed(t, text)
+		if err != nil {
+			t.Fatal(err)
+		}
+		sides, err := condition.Joined(stmt, text, all)
+		if err != nil {
+			t.Fatal(err)
+		}
+		for i, side := range sides {
+			if side.Form == nil {
+				t.Fatalf("%s: %v", from, side.Why)
+			}
+			if _, err := side.Form.Bind(condition.Arguments{}); side.Form.Given != want[i] || (err != nil) != want[i] {
+				t.Errorf("%s: %s is given others' rows: %v, %v", from, side.Name, side.Form.Given, err)
+			}
+		}
+	}
+}
