@@ -74,6 +74,7 @@ var joined = []struct{ from, why string }{
 	// A name means a table of the subquery around it, and not of one beside it.
 	{"a JOIN b ON a.id = b.id WHERE EXISTS (SELECT 1 FROM c WHERE b.z = c.z AND EXISTS (SELECT 1 FROM b WHERE b.id = 0))",
 		"a function or subquery over other tables|a function or subquery over other tables"},
+	{"a JOIN b ON a.id = b.id WHERE EXISTS (SELECT 1 FROM c AS b WHERE b.n = a.id)", "a subquery|"},
 	{"a JOIN b ON a.id = b.id AND a.x::small = 1", "an expression over a column|a function or subquery over other tables"},
 	// Names with a schema, and with a database.
 	{"a JOIN b ON public.a.id = b.a_id WHERE public.b.z = 1", "|"},
@@ -458,6 +459,8 @@ var subqueries = []struct{ from, want string }{
 	{"a WHERE x = 1 AND 3 NOT IN (1, 2)", "a WHERE x = 1 AND 3 NOT IN (1, 2)"},
 	{"a WHERE x = 1 AND 3 = ANY (SELECT z FROM c)", "a WHERE x = 1"},
 	{"a WHERE x = 1 AND 3 <> ANY (SELECT z FROM c)", "a WHERE x = 1"},
+	{"a WHERE x = 1 AND NOT (3 <> ALL (SELECT z FROM c))", "a WHERE x = 1"},
+	{"a WHERE x = 1 AND 3 = ALL (SELECT z FROM c)", "a WHERE x = 1"},
 	{"a WHERE x = 1 AND random() < 2 AND NOT EXISTS (SELECT 1 FROM c WHERE n = 77)", "a subquery; c WHERE n = 77"},
 	// Beside rows of several tables.
 	{"a JOIN b ON a.id = b.a_id WHERE NOT EXISTS (SELECT 1 FROM c WHERE c.id = a.id AND c.n = 3 AND c.z = b.id)",
