@@ -14,7 +14,7 @@ set -euo pipefail
 here=$(dirname "$0")
 for python in /usr/bin/python3 python3; do
     if "$python" -c "import tomllib, setuptools, wheel" 2> /dev/null; then # tomllib: 3.11
-        exec "$python" "$here/collectors/python/make_wheel.py" "$@"
+        exec "$python" "$here/python/make_wheel.py" "$@"
     fi
 done
 echo "package.sh: Python 3.11 or later with setuptools and wheel is missing (Debian: apt-get install python3-setuptools python3-wheel)" >&2

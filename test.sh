@@ -31,11 +31,11 @@ if [ "$proxy" -ne 0 ]; then
     failed=$((failed + 1))
 fi
 
-echo "== collectors/python"
+echo "== python"
 python=0
-collectors/python/test.sh 2>&1 || python=$?
+python/test.sh 2>&1 || python=$?
 if [ "$python" -ne 0 ]; then
-    echo "FAILED: collectors/python/test.sh (status $python)"
+    echo "FAILED: python/test.sh (status $python)"
     failed=$((failed + 1))
 fi
 echo "$passed passed, $failed failed"

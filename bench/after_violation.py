@@ -5,7 +5,7 @@ updates all the time, and a write skew now and then, at PostgreSQL's default lev
         [--rows N] [--package DIR]
 
 It starts a server of its own, and runs `zanteyard watch` of the package in DIR (this tree's), such as an older one's
-collectors/python. It prints how many updates were lost and what the outcome says.
+python. It prints how many updates were lost and what the outcome says.
 """
 import argparse
 import os
@@ -18,7 +18,7 @@ import threading
 import time
 
 HERE = os.path.dirname(os.path.abspath(__file__))
-PACKAGE = os.path.normpath(os.path.join(HERE, "../collectors/python"))
+PACKAGE = os.path.normpath(os.path.join(HERE, "../python"))
 sys.path[:0] = [PACKAGE, os.path.join(HERE, "../examples")]
 
 import psycopg2

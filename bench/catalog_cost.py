@@ -23,7 +23,7 @@ import time
 from typing import Any
 
 TOP = os.path.normpath(os.path.join(os.path.dirname(os.path.abspath(__file__)), ".."))
-sys.path[:0] = [os.path.join(TOP, "collectors/python"), os.path.join(TOP, "collectors/python/tests")]
+sys.path[:0] = [os.path.join(TOP, "python"), os.path.join(TOP, "python/tests")]
 
 from proxy_cost import descendants, free_port, processor_time, wait_for_audit
 from proxy_pair import Server, postgres_program, proxy_program
@@ -66,7 +66,7 @@ def measure(options: Any, program: str, folder: str, tables: int) -> float:
         create(server, tables, options.partitions)
         page = f"127.0.0.1:{free_port()}"
         environment = dict(os.environ, ZANTEYARD_PROXY=program, RUNTIME_DIRECTORY=folder)
-        environment["PYTHONPATH"] = os.path.join(TOP, "collectors/python")
+        environment["PYTHONPATH"] = os.path.join(TOP, "python")
         where = f"postgresql://postgres@127.0.0.1:{server.port}/postgres"
         call = [sys.executable, "-m", "zanteyard", "watch", where, "--trust-clients", "--metrics", page]
         began = time.monotonic()

@@ -34,7 +34,7 @@ from typing import Any
 from meetings import Audit
 from proxy_cost import ASKS, TOP, VISIT, prepared_server, processor_time
 
-sys.path[:0] = [os.path.join(TOP, "collectors/python/tests")]
+sys.path[:0] = [os.path.join(TOP, "python/tests")]
 from proxy_pair import Server, postgres_program
 
 WORKS = {"asks": ("asks", "finds"), "keys": ("finds",), "update": (), "select": ()}

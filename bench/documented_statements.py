@@ -20,7 +20,7 @@ import tempfile
 from collections.abc import Iterator
 
 TOP = os.path.join(os.path.dirname(os.path.abspath(__file__)), "..")
-sys.path[:0] = [os.path.join(TOP, "collectors/python"), os.path.join(TOP, "collectors/python/tests")]
+sys.path[:0] = [os.path.join(TOP, "python"), os.path.join(TOP, "python/tests")]
 
 from proxy_pair import Pair, proxy_program
 

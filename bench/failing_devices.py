@@ -28,7 +28,7 @@ import sys
 import tempfile
 
 HERE = os.path.dirname(os.path.abspath(__file__))
-sys.path[:0] = [HERE, os.path.join(HERE, "../collectors/python")]
+sys.path[:0] = [HERE, os.path.join(HERE, "../python")]
 from judge import first_difference, lines_of  # noqa: E402
 
 SHIM = r"""

@@ -44,7 +44,7 @@ from dataclasses import dataclass
 from typing import Any
 
 TOP = os.path.normpath(os.path.join(os.path.dirname(os.path.abspath(__file__)), ".."))
-PACKAGE = os.path.join(TOP, "collectors/python")
+PACKAGE = os.path.join(TOP, "python")
 sys.path[:0] = [os.path.join(TOP, "bench"), PACKAGE]
 from field_histories import History, HistoryError, NODES, keep, kept, script  # noqa: E402
 from field_workloads import SESSIONS, WORKLOADS  # noqa: E402

@@ -23,7 +23,7 @@ from typing import Any
 import psycopg2
 from psycopg2 import errors
 
-sys.path.append(os.path.join(os.path.dirname(os.path.abspath(__file__)), "../collectors/python"))
+sys.path.append(os.path.join(os.path.dirname(os.path.abspath(__file__)), "../python"))
 from field_histories import Attempt, FENCE, History, MOST, Record, is_list
 from field_workloads import WORKLOADS, dealt
 from zanteyard.trial.postgres_server import PostgresServer

@@ -38,7 +38,7 @@ from collections.abc import Callable, Iterator
 from typing import Any
 
 TOP = os.path.normpath(os.path.join(os.path.dirname(os.path.abspath(__file__)), ".."))
-sys.path[:0] = [os.path.join(TOP, "collectors/python"), os.path.join(TOP, "collectors/python/tests")]
+sys.path[:0] = [os.path.join(TOP, "python"), os.path.join(TOP, "python/tests")]
 
 import psycopg2
 from proxy_cost import free_port, prepared_server, wait_for, wait_for_audit
@@ -174,7 +174,7 @@ def figures(times: list[float]) -> str:
 def measure(name: str, options: Any, where: str, direct: int, folder: str) -> None:
     listen, passing, page = free_port(), free_port(), f"127.0.0.1:{free_port()}"
     environment = dict(os.environ, ZANTEYARD_PROXY=options.proxy, RUNTIME_DIRECTORY=folder)
-    environment["PYTHONPATH"] = os.path.join(TOP, "collectors/python")
+    environment["PYTHONPATH"] = os.path.join(TOP, "python")
     call = [sys.executable, "-m", "zanteyard", "watch", where, "--trust-clients", "--json", "--metrics", page]
     with open(os.path.join(folder, "log"), "ab") as log:
         watch = subprocess.Popen(

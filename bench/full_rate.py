@@ -88,7 +88,7 @@ class Watch:
         call = [sys.executable, "-m", "zanteyard", "watch", url, "--log", "WARNING", "--json"]
         call += ["--trust-clients", "--listen", f"127.0.0.1:{self.port}", "--metrics", self.address]
         environment = dict(os.environ, ZANTEYARD_PROXY=proxy)
-        environment["PYTHONPATH"] = os.path.join(TOP, "collectors/python")
+        environment["PYTHONPATH"] = os.path.join(TOP, "python")
         self.log = os.path.join(folder, "watch.log")
         with open(self.log, "ab") as log:
             self.process = subprocess.Popen(

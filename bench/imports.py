@@ -124,7 +124,7 @@ def main():
     parser.add_argument("--keep", metavar="FOLDER", help="where to leave the histories")
     parser.add_argument("--program", metavar="PROGRAM", help="the auditor, instead of the built one")
     asked = parser.parse_args()
-    os.environ["PYTHONPATH"] = os.path.join(TOP, "collectors/python")
+    os.environ["PYTHONPATH"] = os.path.join(TOP, "python")
     if asked.program:
         os.environ["COBRA_AUDIT"] = os.path.abspath(asked.program)
     print(COLUMNS.format("history", "MB", "import", "processor", "MB/s", "check", "processor"))

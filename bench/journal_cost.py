@@ -28,7 +28,7 @@ import tempfile
 import threading
 import time
 
-sys.path.insert(0, os.path.join(os.path.dirname(os.path.abspath(__file__)), "../collectors/python"))
+sys.path.insert(0, os.path.join(os.path.dirname(os.path.abspath(__file__)), "../python"))
 from histories import Store  # noqa: E402
 from zanteyard import FENCE, RATHER_WAIT, Auditor, AuditServer, LiveAuditor, Logged  # noqa: E402
 from zanteyard.stores.memory import MemoryStore  # noqa: E402

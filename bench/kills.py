@@ -16,7 +16,7 @@ import sys
 import time
 import unittest
 
-PLACE = os.path.join(os.path.dirname(os.path.dirname(os.path.abspath(__file__))), "collectors", "python")
+PLACE = os.path.join(os.path.dirname(os.path.dirname(os.path.abspath(__file__))), "python")
 TESTS = (
     "tests.test_restarting.Killed.test_a_hundred_kills",
     "tests.test_journal_kills",

@@ -33,7 +33,7 @@ from typing import Any
 
 from proxy_cost import TOP, free_port, prepared_server, wait_for
 
-sys.path[:0] = [os.path.join(TOP, "collectors/python/tests")]
+sys.path[:0] = [os.path.join(TOP, "python/tests")]
 from proxy_pair import Server, postgres_program
 
 WORKS = {"select": "-S", "update": "-N", "tpcb": ""}

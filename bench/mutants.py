@@ -32,7 +32,7 @@ import time
 import unittest
 
 TOP = os.path.dirname(os.path.dirname(os.path.abspath(__file__)))
-PYTHON, PROXY = os.path.join(TOP, "collectors", "python"), os.path.join(TOP, "proxy")
+PYTHON, PROXY = os.path.join(TOP, "python"), os.path.join(TOP, "proxy")
 FILES = {
     "python": (
         *("session/_*.py", "live/_backlog.py", "live/_session_pool.py", "live/_quiesce_coordinator.py"),

@@ -26,7 +26,7 @@ from dataclasses import dataclass
 from typing import Any
 
 TOP = os.path.normpath(os.path.join(os.path.dirname(os.path.abspath(__file__)), ".."))
-PYTHON = os.path.join(TOP, "collectors/python")
+PYTHON = os.path.join(TOP, "python")
 sys.path[:0] = [PYTHON, os.path.join(PYTHON, "tests")]
 import psycopg2
 from proxy_cost import free_port, wait_for, wait_for_audit

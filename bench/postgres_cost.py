@@ -24,7 +24,7 @@ import time
 import psycopg2
 
 TOP = os.path.join(os.path.dirname(os.path.abspath(__file__)), "..")
-sys.path[:0] = [os.path.join(TOP, "examples"), os.path.join(TOP, "collectors/python")]
+sys.path[:0] = [os.path.join(TOP, "examples"), os.path.join(TOP, "python")]
 from postgres_live import WORKLOADS, ClientProcesses, Clients, Nothing
 from zanteyard import Auditor, AuditServer, LiveAuditor, Session
 from zanteyard.trial.postgres_server import PostgresServer, ended_by_signals

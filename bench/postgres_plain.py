@@ -20,7 +20,7 @@ import psycopg2
 from psycopg2 import errors
 
 TOP = os.path.join(os.path.dirname(os.path.abspath(__file__)), "..")
-sys.path[:0] = [os.path.join(TOP, "examples"), os.path.join(TOP, "collectors/python")]
+sys.path[:0] = [os.path.join(TOP, "examples"), os.path.join(TOP, "python")]
 from postgres_live import WORKLOADS, Clients, Nothing
 from zanteyard import AbortedError, Auditor, LiveAuditor, Session
 from zanteyard.trial.postgres_server import PostgresServer

@@ -33,7 +33,7 @@ from collections.abc import Iterator
 from typing import Any
 
 TOP = os.path.join(os.path.dirname(os.path.abspath(__file__)), "..")
-sys.path[:0] = [os.path.join(TOP, "collectors/python"), os.path.join(TOP, "collectors/python/tests")]
+sys.path[:0] = [os.path.join(TOP, "python"), os.path.join(TOP, "python/tests")]
 from proxy_pair import Server, postgres_program, proxy_program
 
 WAYS = ("direct", "pgbouncer", "passing", "audited", "followed")
@@ -163,7 +163,7 @@ class Started:
         listen = free_port()
         url = f"postgresql://postgres@{self.host}:{self.port}/postgres"
         environment = dict(os.environ, ZANTEYARD_PROXY=self.proxy)
-        environment["PYTHONPATH"] = os.path.join(TOP, "collectors/python")
+        environment["PYTHONPATH"] = os.path.join(TOP, "python")
         as_user: dict[str, Any] = {}
         if name == "pgbouncer":
             path = os.path.join(self.folder, "pgbouncer.ini")

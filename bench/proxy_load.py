@@ -35,7 +35,7 @@ import time
 from typing import Any
 
 TOP = os.path.normpath(os.path.join(os.path.dirname(os.path.abspath(__file__)), ".."))
-sys.path[:0] = [os.path.join(TOP, "collectors/python"), os.path.join(TOP, "collectors/python/tests")]
+sys.path[:0] = [os.path.join(TOP, "python"), os.path.join(TOP, "python/tests")]
 
 from proxy_cost import descendants, free_port, wait_for, wait_for_audit
 from proxy_pair import Server, postgres_program, proxy_program
@@ -320,7 +320,7 @@ def run(options: Any, folder: str) -> bool:
                    "INSERT INTO load SELECT i FROM generate_series(0, 999) i; ANALYZE load;"
                    "CREATE UNLOGGED TABLE heap (word text)")
         environment = dict(os.environ, ZANTEYARD_PROXY=program, RUNTIME_DIRECTORY=folder)
-        environment["PYTHONPATH"] = os.path.join(TOP, "collectors/python")
+        environment["PYTHONPATH"] = os.path.join(TOP, "python")
         where = f"postgresql://postgres@127.0.0.1:{server.port}/postgres"
         call = [sys.executable, "-m", "zanteyard", "watch", where, "--trust-clients", "--json", "--metrics", page]
         with open(os.path.join(folder, "log"), "wb") as log:

@@ -33,7 +33,7 @@ import threading
 import time
 
 TOP = os.path.normpath(os.path.join(os.path.dirname(os.path.abspath(__file__)), ".."))
-sys.path[:0] = [os.path.join(TOP, "collectors/python"), os.path.join(TOP, "collectors/python/tests")]
+sys.path[:0] = [os.path.join(TOP, "python"), os.path.join(TOP, "python/tests")]
 HERE = os.path.join(TOP, "bench/matrix")
 
 import psycopg2
@@ -216,7 +216,7 @@ class World:
         os.mkdir(control, 0o700)
         self.control = control
         self.environment = {**os.environ, "ZANTEYARD_PROXY": proxy_program(folder), "RUNTIME_DIRECTORY": control,
-                            "PYTHONPATH": os.path.join(TOP, "collectors/python")}
+                            "PYTHONPATH": os.path.join(TOP, "python")}
         self.watch = Watch(self).audits()
         ports = (self.relays[0].port, self.listen)
         self.clients = {name: [Client(call, port) for port in ports] for name, call in drivers.items()}

@@ -40,7 +40,7 @@ import tempfile
 from collections import Counter
 
 HERE = os.path.dirname(os.path.abspath(__file__))
-sys.path[:0] = [HERE, os.path.join(HERE, "../collectors/python")]
+sys.path[:0] = [HERE, os.path.join(HERE, "../python")]
 from judge import Model, command_of, first_difference, told_txn  # noqa: E402
 from plain_verdicts import Wrong  # noqa: E402
 

@@ -19,7 +19,7 @@ import sys
 from typing import Any
 
 TOP = os.path.join(os.path.dirname(os.path.abspath(__file__)), "..")
-sys.path.insert(0, os.path.join(TOP, "collectors/python"))
+sys.path.insert(0, os.path.join(TOP, "python"))
 
 from zanteyard.program._binaries import PROGRAM
 

@@ -24,7 +24,7 @@ from dataclasses import dataclass
 import psycopg
 
 TOP = os.path.normpath(os.path.join(os.path.dirname(os.path.abspath(__file__)), ".."))
-PYTHON = os.path.join(TOP, "collectors/python")
+PYTHON = os.path.join(TOP, "python")
 sys.path[:0] = [PYTHON, os.path.join(PYTHON, "tests")]
 from proxy_cost import Started
 from proxy_pair import Server, proxy_program

@@ -28,7 +28,7 @@ from collections.abc import Iterator
 from typing import Any
 
 TOP = os.path.normpath(os.path.join(os.path.dirname(os.path.abspath(__file__)), ".."))
-PYTHON = os.path.join(TOP, "collectors/python")
+PYTHON = os.path.join(TOP, "python")
 sys.path[:0] = [PYTHON, os.path.join(PYTHON, "tests")]
 from proxy_cost import free_port, wait_for, wait_for_audit
 from totals_server import Oracle, Said

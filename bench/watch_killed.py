@@ -36,7 +36,7 @@ import time
 import urllib.request
 
 TOP = os.path.join(os.path.dirname(os.path.abspath(__file__)), "..")
-sys.path[:0] = [os.path.join(TOP, "collectors/python"), os.path.join(TOP, "collectors/python/tests")]
+sys.path[:0] = [os.path.join(TOP, "python"), os.path.join(TOP, "python/tests")]
 
 import psycopg2
 from proxy_pair import Server, postgres_program, proxy_program
@@ -221,7 +221,7 @@ def run(options, folder):
     control = os.path.join(folder, "control")
     os.mkdir(control, 0o700)
     environment = {**os.environ, "ZANTEYARD_PROXY": program, "RUNTIME_DIRECTORY": control,
-                   "PYTHONPATH": os.path.join(TOP, "collectors/python")}
+                   "PYTHONPATH": os.path.join(TOP, "python")}
     call = [sys.executable, "-m", "zanteyard", "watch", where, "--trust-clients", "--json",
             "--listen", f"127.0.0.1:{listen}", "--page", page]
     direct = psycopg2.connect(where)

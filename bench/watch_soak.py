@@ -41,7 +41,7 @@ from collections.abc import Callable, Iterator
 from typing import Any
 
 TOP = os.path.join(os.path.dirname(os.path.abspath(__file__)), "..")
-sys.path[:0] = [os.path.join(TOP, "collectors/python"), os.path.join(TOP, "collectors/python/tests")]
+sys.path[:0] = [os.path.join(TOP, "python"), os.path.join(TOP, "python/tests")]
 
 import psycopg2
 from proxy_cost import descendants, free_port, processor_time
@@ -255,7 +255,7 @@ class Watch:
         if asked.promise:
             call += ["--promise", asked.promise]
         environment = dict(os.environ, ZANTEYARD_PROXY=proxy)
-        environment["PYTHONPATH"] = os.path.join(TOP, "collectors/python")
+        environment["PYTHONPATH"] = os.path.join(TOP, "python")
         self.log = os.path.join(folder, "watch.log")
         with open(self.log, "wb") as log:
             self.process = subprocess.Popen(

@@ -22,7 +22,7 @@ import threading
 import time
 
 HERE = os.path.dirname(os.path.abspath(__file__))
-PACKAGE = os.path.join(os.path.dirname(HERE), "collectors", "python")
+PACKAGE = os.path.join(os.path.dirname(HERE), "python")
 sys.path.insert(0, PACKAGE)
 
 import psycopg2

@@ -13,7 +13,7 @@ import signal
 import sys
 
 HERE = os.path.dirname(os.path.abspath(__file__))
-sys.path.insert(0, os.path.join(HERE, "../collectors/python"))
+sys.path.insert(0, os.path.join(HERE, "../python"))
 from zanteyard import Auditor, Logged  # noqa: E402
 
 # What two clients did, as their collector noted it: session, number, reads and writes.

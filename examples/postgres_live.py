@@ -17,7 +17,7 @@ import os
 import sys
 
 TOP = os.path.join(os.path.dirname(os.path.abspath(__file__)), "..")
-sys.path.insert(0, os.path.join(TOP, "collectors/python"))
+sys.path.insert(0, os.path.join(TOP, "python"))
 from zanteyard import ProgramEndedError
 from zanteyard.cli.audit import CantAuditError, add_arguments, run
 from zanteyard.trial.workloads import WORKLOADS, ClientProcesses, Clients, Nothing

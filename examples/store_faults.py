@@ -13,7 +13,7 @@ import os
 import sys
 
 TOP = os.path.join(os.path.dirname(os.path.abspath(__file__)), "..")
-sys.path.insert(0, os.path.join(TOP, "collectors/python"))
+sys.path.insert(0, os.path.join(TOP, "python"))
 from zanteyard.trial.under_load import CLIENTS, at_once_table
 from zanteyard.trial.postgres_server import ended_by_signals
 from zanteyard.core.errors import ZanteyardError

@@ -10,7 +10,7 @@ import (
 // read parses the Python package's modules of a pattern, and evaluates their constants.
 const read = `
 import ast, glob, json, os, re
-paths = sorted(glob.glob("../../../../collectors/python/zanteyard/%s", recursive=True))
+paths = sorted(glob.glob("../../../../python/zanteyard/%s", recursive=True))
 trees = {os.path.basename(path)[:-3]: ast.parse(open(path).read()) for path in paths}
 
 def constants(tree):
