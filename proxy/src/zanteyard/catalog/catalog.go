@@ -139,7 +139,7 @@ type Catalog struct {
 	sole      map[string]*Table            // by name, nil if several schemas have it
 	functions map[string]*functions
 	cascades  map[uint32][]uint32 // tables whose rows change with those of another one
-	operators map[string]bool     // names of operators whose functions aren't pure
+	operators map[string]operator // whose functions aren't pure, or return sets, by name
 	certain   bool                // OnlyCertainLists was given
 	elsewhere *elsewhere
 	columns   map[uint32]record.Identity // of tables
@@ -168,7 +168,7 @@ func Load(ctx context.Context, query Query, options ...Option) (*Catalog, error)
 		names:     map[string]map[string]*Table{},
 		sole:      map[string]*Table{},
 		functions: map[string]*functions{},
-		operators: map[string]bool{},
+		operators: map[string]operator{},
 		cascades:  map[uint32][]uint32{},
 	}
 	for _, option := range options {

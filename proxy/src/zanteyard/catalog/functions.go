@@ -63,7 +63,21 @@ func (c *Catalog) MadeByOthers(name string) bool {
 }
 
 // PureOperator says that no operator of this name calls a function that may read or write tables.
-func (c *Catalog) PureOperator(name string) bool { return !c.operators[name] }
+func (c *Catalog) PureOperator(name string) bool { return !c.operators[name].impure }
+
+// SetOperator says that an operator of this name may return any number of rows.
+func (c *Catalog) SetOperator(name string) bool { return c.operators[name].set }
+
+// operator is what the functions of operators with one name may do.
+type operator struct{ impure, set bool }
+
+// Called returns what t.name may call, if t has no column of this name.
+func (c *Catalog) Called(name string) Function {
+	if _, known := c.functions[name]; !known {
+		return Function{}
+	}
+	return c.Function("", name)
+}
 
 func (c *Catalog) takeFunction(row []string) error {
 	if err := width(row, 11); err != nil {
@@ -106,10 +120,10 @@ func (c *Catalog) takeFunction(row []string) error {
 }
 
 func (c *Catalog) takeOperator(row []string) error {
-	if err := width(row, 1); err != nil {
+	if err := width(row, 3); err != nil {
 		return err
 	}
-	c.operators[row[0]] = true
+	c.operators[row[0]] = operator{set: row[1] == "true", impure: row[2] != "true"}
 	return nil
 }
 

@@ -117,11 +117,14 @@ FROM pg_catalog.pg_proc p JOIN pg_catalog.pg_namespace n ON n.oid = p.pronamespa
   JOIN pg_catalog.pg_language l ON l.oid = p.prolang
 GROUP BY p.proname, n.nspname`)
 
-var operatorsSQL = own.SQL(`SELECT DISTINCT o.oprname::pg_catalog.text FROM pg_catalog.pg_operator o
+var operatorsSQL = own.SQL(`SELECT o.oprname::pg_catalog.text, pg_catalog.bool_or(p.proretset)::pg_catalog.text,
+  pg_catalog.bool_and(p.provolatile = 'i' OR p.provolatile = 's' AND l.lanname IN ('c', 'internal'))::pg_catalog.text
+FROM pg_catalog.pg_operator o
   JOIN pg_catalog.pg_namespace n ON n.oid = o.oprnamespace JOIN pg_catalog.pg_proc p ON p.oid = o.oprcode
   JOIN pg_catalog.pg_language l ON l.oid = p.prolang
 WHERE n.nspname <> 'pg_catalog'
-  AND NOT (p.provolatile = 'i' OR p.provolatile = 's' AND l.lanname IN ('c', 'internal'))`)
+  AND (p.proretset OR NOT (p.provolatile = 'i' OR p.provolatile = 's' AND l.lanname IN ('c', 'internal')))
+GROUP BY o.oprname`)
 
 // ColumnsSQL is the text that IdentityOf makes the identity of all columns of the table c of pg_class from: what they
 // are called, their types and collations, when each was last changed, and what else decides which rows a condition means

@@ -484,7 +484,7 @@ func (n *names) sorting(body tree) []any {
 	for _, item := range body.list("sortClause") {
 		_, its := open(item)
 		_, reference := open(its["node"])
-		if fields := reference.names("fields"); len(fields) == 1 && renames(body, fields[0]) {
+		if fields := reference.names("fields"); len(fields) == 1 && (renames(body, fields[0]) || n.merged[fields[0]]) {
 			return append(all, map[string]any{"SortBy": map[string]any{"node": unclear()}})
 		}
 		all = append(all, n.rewrite(item))

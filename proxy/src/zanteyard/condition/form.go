@@ -192,19 +192,67 @@ func (f *Form) drops(kind string, body tree) string {
 }
 
 // setReturning says that a query calls a function that may return no row.
-func (f *Form) setReturning(query tree) (reason string) {
-	visit(map[string]any(query), func(kind string, call tree) {
-		if names := call.names("funcname"); kind == "FuncCall" && len(names) > 0 {
-			schema := ""
-			if len(names) > 1 {
-				schema = names[0]
+func (f *Form) setReturning(query tree) string {
+	if ReturnsSets(map[string]any(query), f.catalog) {
+		return "a function that returns any number of rows"
+	}
+	return ""
+}
+
+// ReturnsSets reports whether an expression may return any number of rows: by a function, by an operator that somebody has
+// made of one, or by a name. The server takes t.f for f(t) if t has no column f.
+func ReturnsSets(value any, c *catalog.Catalog) bool {
+	found := false
+	visit(value, func(kind string, body tree) {
+		switch kind {
+		case "FuncCall":
+			if schema, name := qualified(body.names("funcname")); name != "" {
+				found = found || c.Function(schema, name).Set
 			}
-			if f.catalog.Function(schema, names[len(names)-1]).Set {
-				reason = "a function that returns any number of rows"
-			}
+		case "A_Expr":
+			_, name := qualified(body.names("name"))
+			found = found || c.SetOperator(name)
+		default:
+			name := calledByName(kind, body)
+			found = found || name != "" && c.Called(name).Set
 		}
 	})
-	return reason
+	return found
+}
+
+// AggregatesByName reports whether a name may call an aggregate, as t.count does if t has no column count.
+func AggregatesByName(value any, c *catalog.Catalog) bool {
+	found := false
+	visit(value, func(kind string, body tree) {
+		name := calledByName(kind, body)
+		found = found || name != "" && c.Called(name).Aggregate
+	})
+	return found
+}
+
+// calledByName returns the name of a function that t.name or (t).name calls if it names no column.
+func calledByName(kind string, body tree) string {
+	switch kind {
+	case "ColumnRef":
+		if names := body.names("fields"); len(names) > 1 {
+			return names[len(names)-1]
+		}
+	case "A_Indirection":
+		if names := body.names("indirection"); len(names) > 0 {
+			return names[len(names)-1]
+		}
+	}
+	return ""
+}
+
+func qualified(names []string) (schema, name string) {
+	switch len(names) {
+	case 0:
+		return "", ""
+	case 1:
+		return "", names[0]
+	}
+	return names[0], names[len(names)-1]
 }
 
 // distinctOn distinguishes DISTINCT ON, which returns one of several rows, from DISTINCT.

@@ -286,7 +286,11 @@ func (j *joins) side(of *scope, statement map[string]any, text string) (*Form, e
 	if !of.nullable {
 		f.sorted = sorts(j.order, of.table, func(value any) *catalog.Column {
 			_, body := open(value)
-			its, column, err := j.resolve(body.names("fields"))
+			names := body.names("fields")
+			if len(names) == 1 && j.merged[names[0]] { // the result's column of that name may be another table's
+				return nil
+			}
+			its, column, err := j.resolve(names)
 			if err != nil || its != of {
 				return nil
 			}

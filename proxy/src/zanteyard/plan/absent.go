@@ -1,5 +1,7 @@
 package plan
 
+import "zanteyard/condition"
+
 // aSubquery is why the rows aren't seen that a subquery elsewhere than in FROM reads.
 const aSubquery = "a subquery"
 
@@ -15,7 +17,8 @@ func (m *maker) asksForNone(p *Plan, name string, body, query node) {
 			return
 		}
 	}
-	if m.aggregates([]any{query["targetList"], query["sortClause"], query["windowClause"], query["distinctClause"]}) {
+	its := []any{query["targetList"], query["sortClause"], query["windowClause"], query["distinctClause"]}
+	if m.aggregates(its) || condition.AggregatesByName(its, m.catalog) {
 		return
 	}
 	f, reason := m.followJoin(p, name, body)

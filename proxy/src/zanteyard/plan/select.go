@@ -432,17 +432,4 @@ func (m *maker) byKey(body node) bool {
 	return values != nil
 }
 
-func (m *maker) setReturning(value any) bool {
-	found := false
-	visit(value, func(kind string, body node) bool {
-		if name := names(body.list("funcname")); kind == "FuncCall" && len(name) > 0 {
-			schema := ""
-			if len(name) > 1 {
-				schema = name[0]
-			}
-			found = found || m.catalog.Function(schema, name[len(name)-1]).Set
-		}
-		return !found
-	})
-	return found
-}
+func (m *maker) setReturning(value any) bool { return condition.ReturnsSets(value, m.catalog) }
