@@ -104,7 +104,7 @@ class Each:
             for level, one in zip(self.levels, seen):
                 with self.subTest(fault=fault, level=level):
                     self.assertEqual(str(one), name if level in allowed else "serial")
-        with open(os.path.join(PLACE, "../../docs/STORES.md"), encoding="utf-8") as file:
+        with open(os.path.join(PLACE, "../docs/STORES.md"), encoding="utf-8") as file:
             text = file.read()
         self.assertIn("\n".join(table_lines(found, self.levels)), text)
         self.assertIn("\n".join(promise_lines(found, self.levels)), text)
@@ -256,7 +256,7 @@ class Each:
 
     def test_what_the_example_tells(self):
         level = self.audited[0]
-        example = os.path.join(PLACE, "../../examples/store_faults.py")
+        example = os.path.join(PLACE, "../examples/store_faults.py")
         status, told = self.command(example, *self.command_words, "--level", level, "--fault", "lost update")
         self.assertEqual(status, 0, told)
         self.assertIn("Two clients increment the same number.\n", told)
