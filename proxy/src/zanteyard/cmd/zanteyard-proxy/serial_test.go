@@ -43,6 +43,9 @@ const (
 	serialWriters = 3
 )
 
+// mayFail are errors of serial histories, and of statements that say too little.
+var mayFail = map[string]bool{"23505": true, "21000": true, "40001": true, "42702": true, "42P10": true, "42601": true}
+
 // run runs a text with numbers for its marks. An error that a serial history may have, too, is none.
 func (s *serialRun) run(conn *pgconn.PgConn, text string) bool {
 	s.t.Helper()
@@ -59,7 +62,7 @@ func (s *serialRun) run(conn *pgconn.PgConn, text string) bool {
 	switch {
 	case err == nil:
 		return true
-	case errors.As(err, &told) && (told.Code == "23505" || told.Code == "21000" || told.Code == "40001"):
+	case errors.As(err, &told) && mayFail[told.Code]:
 		s.failed[told.Code]++
 	default:
 		s.t.Fatalf("%s: %v", text, err)
@@ -136,7 +139,7 @@ func TestSerialHistories(t *testing.T) {
 	t.Logf("-serial-seed %d", *serialSeed)
 	s := &serialRun{t: t, r: rand.New(rand.NewSource(*serialSeed)), failed: map[string]int{}, reading: make([]int, serialReaders)}
 	shapes := &serialShapes{s.r}
-	for len(s.asks) < 60 {
+	for len(s.asks) < 90 {
 		s.asks = append(s.asks, shapes.ask())
 	}
 	for len(s.writes) < 30 {
@@ -307,6 +310,9 @@ func (s *serialShapes) where(names ...string) string {
 
 // ask is a SELECT.
 func (s *serialShapes) ask() string {
+	if s.r.Intn(2) == 0 {
+		return s.dropping()
+	}
 	from, names := s.from()
 	where, first := s.where(names...), s.column(names[0])
 	switch s.r.Intn(16) {
