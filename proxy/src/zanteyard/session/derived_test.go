@@ -30,7 +30,7 @@ func TestDerived(t *testing.T) {
 		{"SELECT x FROM listed WHERE g = 5 UNION ALL SELECT v FROM t WHERE id < 4", 13, ""},
 		{"SELECT x, 'a' FROM listed WHERE g = 5 UNION ALL SELECT 1, 'b' UNION ALL (SELECT v, w FROM t ORDER BY id LIMIT 2) ORDER BY 1", 12, ""},
 		{"SELECT x FROM listed WHERE g = 5 UNION ALL SELECT count(*) FROM t", 10, "UNION"},
-		{"SELECT x FROM listed WHERE g = 5 UNION SELECT v FROM t WHERE id < 4", 0, "UNION"},
+		{"SELECT x FROM listed WHERE g = 5 UNION SELECT v FROM t WHERE id < 4", 13, ""},
 		{"SELECT count(*) FROM (SELECT x FROM listed WHERE g = 5) s", 10, ""},
 		{"SELECT count(*) FROM (SELECT id, g FROM listed WHERE g = 5) AS s WHERE id > 55", 4, ""},
 		{"SELECT count(*) FROM (SELECT listed.x, t.v FROM listed LEFT JOIN t ON t.id = listed.id AND t.v > 20 WHERE g = 0) s " +

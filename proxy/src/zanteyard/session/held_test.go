@@ -3,6 +3,7 @@ package session
 import (
 	"fmt"
 	"strings"
+	"sync/atomic"
 	"testing"
 
 	"github.com/jackc/pgproto3/v2"
@@ -144,10 +145,11 @@ func TestHeldIsWhatWasSeen(t *testing.T) {
 func TestHeldAcrossAudits(t *testing.T) {
 	needServer(t)
 	sql(t, fill)
-	auditing, mark := true, int64(anywhere)
-	p := through(t, "postgres", func(o *Options) {
-		o.Auditing, o.Mark = func() bool { return auditing }, func() int64 { return mark }
-	})
+	var auditing atomic.Bool
+	var mark atomic.Int64
+	auditing.Store(true)
+	mark.Store(anywhere)
+	p := through(t, "postgres", func(o *Options) { o.Auditing, o.Mark = auditing.Load, mark.Load })
 	p.warm("BEGIN", holding, more, "ROLLBACK")
 	check := func(what string, told string) {
 		t.Helper()
@@ -166,13 +168,10 @@ func TestHeldAcrossAudits(t *testing.T) {
 	p.settle()
 	p.sink.take()
 	check("in the same audit", "hs[1 2];")
-	p.session.writes.Lock()
-	p.session.state.Lock()
-	auditing = false
-	p.session.state.Unlock()
-	p.session.writes.Unlock()
+	auditing.Store(false)
 	check("in none", "h[];")
-	auditing, mark = true, 12345
+	mark.Store(12345)
+	auditing.Store(true)
 	check("in the next one", "h[];")
 	p.query(`CLOSE "h 1"`)
 }
