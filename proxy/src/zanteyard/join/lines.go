@@ -85,6 +85,9 @@ func (c *core) writeOffer(s *session) {
 	line := make([]byte, 0, len(s.line)+40)
 	if s.joins {
 		c.writeOffer(c.sessions[s.after.session()]) // it has the fence that this one reads
+		if before := c.sessions[s.index-1]; before.joins {
+			c.writeOffer(before)
+		}
 		s.joins = false
 		line = append(line, `["join",`...)
 		line = strconv.AppendInt(line, int64(s.index), 10)

@@ -105,7 +105,7 @@ func (r *resolution) offersNothing() bool {
 func (c *core) resolve(e *entry) (resolution, bool) {
 	var to resolution
 	if e.fence {
-		if e.session.joins && !c.isGiven(e.from) {
+		if e.session.joins && !(c.isGiven(e.from) && c.isNext(e.session)) {
 			return to, false // the auditor takes no session that begins with a fence which reads an unknown one
 		}
 		to.reads, to.writes = []source{{row: c.rows.fence, from: e.from}}, []*row{c.rows.fence}

@@ -72,6 +72,13 @@ func (c *core) join(began time.Time) *session {
 // isGiven reports whether a transaction is in a line, or in one that is being built.
 func (c *core) isGiven(its name) bool { return c.sessions[its.session()].written > its.number() }
 
+// isNext reports whether each session before this one has joined, or does in a line that is being built: the auditor takes
+// sessions in order.
+func (c *core) isNext(s *session) bool {
+	before := c.sessions[s.index-1]
+	return !before.joins || before.written > 0
+}
+
 // release gives a connection's session back.
 func (c *core) release(conn *connection) {
 	if conn.held != nil {

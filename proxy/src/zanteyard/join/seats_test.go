@@ -70,6 +70,49 @@ func TestASessionThatJoinsWaitsForItsFence(t *testing.T) {
 	}
 }
 
+// The auditor takes sessions in order: one that could join waits for those before it, whose fences may read one that isn't
+// written yet.
+func TestSessionsJoinInOrder(t *testing.T) {
+	b := newBench(t, Options{Sessions: 4, First: 2})
+	b.connect(1, 2, 3, 4)
+	b.commit(1001, "a") // somebody may still report it
+	b.tell(1, 0, record.Transaction{Reads: []record.Read{read("a", 1001)}})
+	b.tell(2, 0, record.Transaction{Reads: []record.Read{read("b", 7)}})
+	b.later(time.Millisecond).core.meet(b.now)
+	others := func(place uint64) { // they keep their sessions
+		for connection := uint64(1); connection < 3; connection++ {
+			b.tell(connection, place, record.Transaction{Reads: []record.Read{read("b", 7)}})
+		}
+	}
+	b.later(time.Millisecond)
+	others(1)
+	b.tell(3, 0, record.Transaction{Reads: []record.Read{read("c", 7)}}) // behind a fence of the first session
+	b.later(time.Millisecond).core.meet(b.now)
+	b.later(time.Millisecond)
+	others(2)
+	b.tell(3, 1, record.Transaction{Reads: []record.Read{read("c", 7)}})
+	b.tell(4, 0, record.Transaction{Reads: []record.Read{read("d", 7)}}) // behind one of the second
+	if from := b.core.sessions[3].after; from.session() != 1 {
+		t.Fatalf("the fence that it reads is of session %d", from.session())
+	}
+	b.pass()
+	joined := func() (all []string) {
+		for _, line := range b.lines {
+			if strings.HasPrefix(line, `["join",`) {
+				all = append(all, line[:9])
+			}
+		}
+		return all
+	}
+	if got := joined(); len(got) > 0 {
+		t.Errorf("%v joins before the session in front of it", got)
+	}
+	b.settle()
+	if got := fmt.Sprint(joined()); got != `[["join",2 ["join",3]` {
+		t.Errorf("joined is %s", got)
+	}
+}
+
 // Marks of a round from before a session joined don't have it.
 func TestCutFromBeforeASessionJoined(t *testing.T) {
 	b := newBench(t, Options{Sessions: 2, First: 1})
