@@ -219,9 +219,18 @@ class Fast(unittest.TestCase):
             with self.subTest(name), mock.patch(name, broken):
                 self.assertEqual(in_blocks(text, form, 0, 100), wanted_)
                 self.assertEqual(_processes.shared_all(len, ["ab", "c"]), [2, 1])
-        self.assertEqual(_processes.shared_all(len, ["ab", "c", "def"]), [2, 1, 3])
-        with self.assertRaises(ChildProcessError):
-            os.waitpid(-1, os.WNOHANG)  # none is left
+        children, fork = [], os.fork
+
+        def forked():
+            children.append(fork())
+            return children[-1]
+
+        with mock.patch("os.fork", forked):
+            self.assertEqual(_processes.shared_all(len, ["ab", "c", "def"]), [2, 1, 3])
+        self.assertTrue(children or len(os.sched_getaffinity(0)) == 1)
+        for child in children:
+            with self.assertRaises(ChildProcessError):
+                os.waitpid(child, os.WNOHANG)  # it was waited for
 
     def test_what_only_looks_plain(self):
         """Each row is a value that the quick reading must not take for another one."""
