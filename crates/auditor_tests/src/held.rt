@@ -78,6 +78,7 @@ fn replies<R: Threads + Wait>(rt: &R, alloc: Global, script: &[u8]) -> Result<Ve
     let mut source = MemorySource {
         bytes: script,
         pace: Pace::new(4096, 0),
+        last_read: 0,
     };
     let mut sink = MemorySink {
         bytes: Vec::new(alloc),

@@ -155,7 +155,11 @@ fn show(shown: &mut Vec<u8>, next: Result<Next, Failure>) -> Result<(), AllocErr
 
 /// The first eight that come.
 fn shown(alloc: Global, bytes: &[u8], limit: usize, pace: Pace) -> Result<Vec<u8>, AllocError> {
-    let mut source = MemorySource { bytes, pace };
+    let mut source = MemorySource {
+        bytes,
+        pace,
+        last_read: 0,
+    };
     let mut reader = LineReader::new(alloc, limit)?;
     let mut all = Vec::new(alloc);
     for _ in 0..8 {
@@ -265,6 +269,7 @@ fn served<R: Threads + Wait>(
     let mut source = MemorySource {
         bytes: script,
         pace: Pace::new(most, failing_read),
+        last_read: 0,
     };
     let mut sink = MemorySink {
         bytes: Vec::new(alloc),

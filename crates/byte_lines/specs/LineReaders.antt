@@ -53,6 +53,11 @@ pub record ReadsLine (old new : LineState) (bytes : List ℕ) (left : Option (Li
   pub ends : EndsAtLf old new bytes next ⊎ EndsAtEnd old new bytes left next
   pub fresh : new.under_way ≡ Some []
 
+-- Where what was ahead is among the bytes that the last read had given, the LF that ends the line is among those that the last read gave by then, with
+-- what is ahead now; or the bytes have none, and are the last.
+abbrev pub EndsInLast : LineState → ℕ → LineState → ℕ → List ℕ → Type 0
+EndsInLast old last_old new last bytes = length old.ahead ≤ last_old → (length new.ahead < last) ⊎ (HasNoLf bytes × (new.ahead ≡ []))
+
 -- of these bytes, a piece without LF is part of the line under way now
 pub record StopsInLine (old new : LineState) (bytes : List ℕ) : Type 0 where
   pub piece : List ℕ

@@ -57,6 +57,7 @@ impl Block {
         ensures fewer { IfOk result (λ more. more ≢ false → S.reads_left source.new < S.reads_left source.old) }
         ensures no_more { S.reads_left source.new ≤ S.reads_left source.old }
         ensures bound { length self.new ≤ BLOCK }
+        ensures last { OnOk result (S.last_read source.new ≡ length self.new) }
         ensures ok { OnOk result (S.faults source.new ≡ S.faults source.old) }
 
         ensures none { OnErr result (self.new ≡ []) }

@@ -19,14 +19,19 @@ pub trait ByteSource {
     /// At most how many reads still give bytes, so that whoever reads to the end does come to an end.
     ghost reads_left: { Self → ℕ };
 
+    /// How many bytes the last read gave of those that didn't fail.
+    ghost last_read: { Self → ℕ };
+
     /// Moves some bytes to the front of the buffer, and answers how many: none only at the end, or where the buffer is
     /// empty. What the buffer holds behind them, or after an `Err`, isn't said.
     fn read(&mut self, buffer: &mut [u8]) -> Result<usize, DeviceFault>
         ensures count { IfOk result (λ n. n ≤ length buffer.old) }
         ensures moved { IfOk result (λ n. Consumes (remaining self.old) (remaining self.new) (take n buffer.new)) }
         ensures end { IfOk result (λ n. n ≡ 0 → 0 < length buffer.old → IsAtEnd (remaining self.new)) }
+        ensures last { IfOk result (λ n. last_read self.new ≡ n) }
         ensures ok { OnOk result (faults self.new ≡ faults self.old) }
 
+        ensures last_kept { OnErr result (last_read self.new ≡ last_read self.old) }
         ensures kept { OnErr result (Keeps (remaining self.old) (remaining self.new)) }
         ensures failed { OnErr result (faults self.new ≡ faults self.old + 1) }
 

@@ -69,6 +69,8 @@ impl Pace {
 pub struct MemorySource<'a> {
     pub bytes: &'a [u8],
     pub pace: Pace,
+    /// How many bytes the last read gave of those that didn't fail.
+    pub last_read: usize,
 }
 
 impl<'a> ByteSource for MemorySource<'a> {
@@ -82,6 +84,8 @@ impl<'a> ByteSource for MemorySource<'a> {
 
     ghost reads_left = { λ s. length s.bytes.now };
 
+    ghost last_read = { λ s. s.last_read };
+
     fn read(&mut self, buffer: &mut [u8]) -> Result<usize, DeviceFault>
         ensures many { IfOk result (λ n. n ≡ min self.old.pace.most (min (length buffer.old) (length self.old.bytes.now))) }
         ensures fails { IsErr result ↔ (self.old.pace.fails_in ≡ 1) }
@@ -92,7 +96,9 @@ impl<'a> ByteSource for MemorySource<'a> {
         ensures count { IfOk result (λ n. n ≤ length buffer.old) }
         ensures moved { IfOk result (λ n. Consumes (Some self.old.bytes.now) (Some self.new.bytes.now) (take n buffer.new)) }
         ensures end { IfOk result (λ n. n ≡ 0 → 0 < length buffer.old → IsAtEnd (Some self.new.bytes.now)) }
+        ensures last { IfOk result (λ n. self.new.last_read ≡ n) }
         ensures ok { OnOk result (self.new.pace.faults ≡ self.old.pace.faults) }
+        ensures last_kept { OnErr result (self.new.last_read ≡ self.old.last_read) }
         ensures kept { OnErr result (Keeps (Some self.old.bytes.now) (Some self.new.bytes.now)) }
         ensures failed { OnErr result (self.new.pace.faults ≡ self.old.pace.faults + 1) }
         ensures fewer { IfOk result (λ n. 0 < n → length self.new.bytes.now < length self.old.bytes.now) }
@@ -103,6 +109,7 @@ impl<'a> ByteSource for MemorySource<'a> {
         let (front, rest) = self.bytes.split_at(count);
         buffer[..count].copy_from_slice(front);
         self.bytes = rest;
+        self.last_read = count;
         Ok(count)
     }
 }

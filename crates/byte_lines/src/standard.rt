@@ -11,6 +11,7 @@ use std::io::{Read, Stdin, Stdout, Write};
 pub struct ReaderSource<R: Read> {
     reader: R,
     reads_left: u64,
+    last_read: usize,
     faults: FaultCount,
 }
 
@@ -26,6 +27,7 @@ impl<R: Read> ReaderSource<R> {
         ReaderSource {
             reader,
             reads_left: u64::MAX,
+            last_read: 0,
             faults: FaultCount::Never,
         }
     }
@@ -40,10 +42,13 @@ impl<R: Read> ByteSource for ReaderSource<R> {
 
     ghost reads_left = { λ s. s.reads_left };
 
+    ghost last_read = { λ s. s.last_read };
+
     fn read(&mut self, buffer: &mut [u8]) -> Result<usize, DeviceFault> {
         if self.reads_left > 0 {
             self.reads_left -= 1;
             if let Ok(count) = self.reader.read(buffer) {
+                self.last_read = count;
                 return Ok(count);
             }
         }

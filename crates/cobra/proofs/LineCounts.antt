@@ -10,7 +10,7 @@ use Rattle.byte_lines.specs.Lines.{lines, onto_first, lf_count, HasNoLf}
 pub lf_count-append : (xs ys : List ℕ) → lf_count (xs ++ ys) ≡ lf_count xs + lf_count ys
 lf_count-append xs ys = sum_by-append (λ byte. cond (nat_eq byte 10) 1 0) xs ys
 
-lf_count-cons : (byte : ℕ) (bytes : List ℕ) → lf_count (byte ∷ bytes) ≡ cond (nat_eq byte 10) 1 0 + lf_count bytes
+pub lf_count-cons : (byte : ℕ) (bytes : List ℕ) → lf_count (byte ∷ bytes) ≡ cond (nat_eq byte 10) 1 0 + lf_count bytes
 lf_count-cons byte bytes =
     let one : lf_count (byte ∷ []) ≡ cond (nat_eq byte 10) 1 0 = omega arith in
     omega (arith, lf_count-append (byte ∷ []) bytes, one)

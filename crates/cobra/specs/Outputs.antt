@@ -1,5 +1,5 @@
 -- The output of a script: a line for each of its lines.
-use Rattle.std.specs.Prelude.{◌≡◌, ℕ, ◌<◌, ◌≤◌, ◌⊎◌, List, [], ◌∷◌, ◌++◌, length, take, slice_get, Option, Some}
+use Rattle.std.specs.Prelude.{◌≡◌, ℕ, ◌-◌, ◌<◌, ◌≤◌, ◌⊎◌, List, [], ◌∷◌, ◌++◌, length, take, slice_get, Option, Some}
 use Rattle.std.specs.List.{concat}
 use Rattle.log_text.specs.declared.commands.Command.{Command}
 use Rattle.log_text.specs.declared.replies.Reply.{Reply}
@@ -67,8 +67,8 @@ abbrev pub StopsReading : List ℕ → Option (List ℕ) → List ℕ → Type 0
 StopsReading input left output = (count : ℕ) × (state : Stage) × (front : AnswersFront input left output count state) × (lf_count front.read ≤ count)
 
 -- Where a write failed: the output is whole replies, and a proper front of the reply to the next line, which was read to
--- its end as well.
-pub record StopsWriting (input : List ℕ) (left : Option (List ℕ)) (output : List ℕ) : Type 0 where
+-- its end as well. Nothing was read after that: without what the last read gave, only the lines before it were read to an LF.
+pub record StopsWriting (input : List ℕ) (left : Option (List ℕ)) (last_read : ℕ) (output : List ℕ) : Type 0 where
   pub count : ℕ
   pub state : Stage
   pub whole : List ℕ
@@ -76,6 +76,7 @@ pub record StopsWriting (input : List ℕ) (left : Option (List ℕ)) (output : 
   pub line : List ℕ
   pub line_is : slice_get (lines input) count ≡ Some line
   pub line_read : count < lines_read front.read front.rest
+  pub prompt : lf_count (take (length front.read - last_read) front.read) ≤ count
   pub text : List ℕ
   pub after : Stage
   pub reply : Replies state line text after

@@ -63,7 +63,7 @@ fn serve_lines<
 
     // A front of an output is written.
     ensures stops_reading { R.faults source.old < R.faults source.new → IfSome (R.remaining source.old) (λ input. (output : List ℕ) × StopsReading input (R.remaining source.new) output × Appends (W.contents sink.old) (W.contents sink.new) output) }
-    ensures stops_writing { W.faults sink.old < W.faults sink.new → IfSome (R.remaining source.old) (λ input. (output : List ℕ) × StopsWriting input (R.remaining source.new) output × Appends (W.contents sink.old) (W.contents sink.new) output) }
+    ensures stops_writing { W.faults sink.old < W.faults sink.new → IfSome (R.remaining source.old) (λ input. (output : List ℕ) × StopsWriting input (R.remaining source.new) (R.last_read source.new) output × Appends (W.contents sink.old) (W.contents sink.new) output) }
     ensures stops_for_memory { IsErrOf result Failure.NoMemory → IfSome (R.remaining source.old) (λ input. (output : List ℕ) × StopsForMemory input (R.remaining source.new) output × Appends (W.contents sink.old) (W.contents sink.new) output) }
 
     // One of the devices failed, once, where that is the answer, and else none did.
@@ -100,7 +100,7 @@ pub fn serve<
 
     // A front of an output is written.
     ensures stops_reading { R.faults source.old < R.faults source.new → IfSome (R.remaining source.old) (λ input. (output : List ℕ) × StopsReading input (R.remaining source.new) output × Appends (W.contents sink.old) (W.contents sink.new) output) }
-    ensures stops_writing { W.faults sink.old < W.faults sink.new → IfSome (R.remaining source.old) (λ input. (output : List ℕ) × StopsWriting input (R.remaining source.new) output × Appends (W.contents sink.old) (W.contents sink.new) output) }
+    ensures stops_writing { W.faults sink.old < W.faults sink.new → IfSome (R.remaining source.old) (λ input. (output : List ℕ) × StopsWriting input (R.remaining source.new) (R.last_read source.new) output × Appends (W.contents sink.old) (W.contents sink.new) output) }
     ensures stops_for_memory { IsErrOf result Failure.NoMemory → IfSome (R.remaining source.old) (λ input. (output : List ℕ) × StopsForMemory input (R.remaining source.new) output × Appends (W.contents sink.old) (W.contents sink.new) output) }
 
     // One of the devices failed, once, where that is the answer, and else none did.

@@ -75,7 +75,7 @@ fn run<'s, E, T: Threads, H: Threads + Sync + Drop, R: ByteSource, W: ByteSink>(
     ensures statuses { asked ≡ Ok Asked.Work → (result.status ≡ 0) ⊎ (result.status ≡ 1) }
     ensures device { asked ≡ Ok Asked.Work → option_map (λ words. words.now) result.words ≡ Some (codes "device failed") → (R.faults input.old < R.faults input.new) ⊎ (W.faults output.old < W.faults output.new) }
     ensures stops_reading { asked ≡ Ok Asked.Work → R.faults input.old < R.faults input.new → IfSome (R.remaining input.old) (λ script. (replies : List ℕ) × StopsReading script (R.remaining input.new) replies × Appends (W.contents output.old) (W.contents output.new) replies) }
-    ensures stops_writing { asked ≡ Ok Asked.Work → W.faults output.old < W.faults output.new → IfSome (R.remaining input.old) (λ script. (replies : List ℕ) × StopsWriting script (R.remaining input.new) replies × Appends (W.contents output.old) (W.contents output.new) replies) }
+    ensures stops_writing { asked ≡ Ok Asked.Work → W.faults output.old < W.faults output.new → IfSome (R.remaining input.old) (λ script. (replies : List ℕ) × StopsWriting script (R.remaining input.new) (R.last_read input.new) replies × Appends (W.contents output.old) (W.contents output.new) replies) }
     ensures memory { asked ≡ Ok Asked.Work → option_map (λ words. words.now) result.words ≡ Some (codes "out of memory") → IfSome (R.remaining input.old) (λ script. (replies : List ℕ) × StopsForMemory script (R.remaining input.new) replies × Appends (W.contents output.old) (W.contents output.new) replies) }
     ensures said { result.status ≡ 1 → (option_map (λ words. words.now) result.words ≡ Some (codes "device failed")) ⊎ (option_map (λ words. words.now) result.words ≡ Some (codes "out of memory")) }
 

@@ -32,6 +32,7 @@ fn is_answered<R: Threads + Wait, P: PlainSolver + Sync, S: Solver + Sync>(
     let mut source = MemorySource {
         bytes: script,
         pace: Pace::new(most, 0),
+        last_read: 0,
     };
     let mut sink = MemorySink {
         bytes: Vec::new(alloc),

@@ -130,6 +130,7 @@ fn told<R: Threads + Wait + Sync>(
     let mut source = MemorySource {
         bytes: line,
         pace: Pace::new(4096, 0),
+        last_read: 0,
     };
     demo(rt, alloc, &mut source, sink)
 }

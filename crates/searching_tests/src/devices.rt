@@ -86,6 +86,8 @@ pub struct Mouth<'a> {
     pub held: &'a Held,
     pub heard: &'a Heard,
     pub lines: u64,
+    /// How many bytes the last read gave.
+    pub last_read: usize,
     /// Whether a line was asked for before each line so far was answered.
     pub is_ahead: bool,
 }
@@ -144,14 +146,17 @@ impl<'a> ByteSource for Mouth<'a> {
 
     ghost reads_left = { λ s. length s.turns.now + s.again };
 
+    ghost last_read = { λ s. s.last_read };
+
     fn read(&mut self, buffer: &mut [u8]) -> Result<usize, DeviceFault> {
         self.is_ahead = self.is_ahead || self.heard.lines() != self.lines;
-        match self.next() {
+        self.last_read = match self.next() {
             Some(line) => {
                 self.lines = self.lines.saturating_add(1);
-                Ok(put(line, buffer))
+                put(line, buffer)
             }
-            None => Ok(0),
-        }
+            None => 0,
+        };
+        Ok(self.last_read)
     }
 }

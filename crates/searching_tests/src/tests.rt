@@ -33,6 +33,7 @@ fn serve_turns<R: Threads + Wait>(
         held: &solvers.plain,
         heard: &heard,
         lines: 0,
+        last_read: 0,
         is_ahead: false,
     };
     let mut sink = Ear {
@@ -217,6 +218,7 @@ fn is_told<R: Threads + Wait>(rt: &R, alloc: Global, script: &[u8], end: &str) -
     let mut source = MemorySource {
         bytes: script,
         pace: Pace::new(65_536, 0),
+        last_read: 0,
     };
     let mut sink = MemorySink {
         bytes: Vec::new(alloc),

@@ -12,7 +12,7 @@ pub loop-next-init : goal.loop-next-init
 loop-next-init g c = record {
   fresh = c.requires.under_way;
   limit = c.requires.limit;
-  told = λ input told. ([], Appends-nil _, serving_first input c.args.reader.now _ c.args.script.now.stage told c.requires.ahead c.requires.unbegun);
+  told = λ input told. ([], Appends-nil _, serving_first input c.args.reader.now _ (g.R.ByteSource.last_read c.args.source.now) c.args.script.now.stage told c.requires.ahead c.requires.unbegun);
   read = refl;
   written = refl;
 }
@@ -24,14 +24,14 @@ returns-in_err-next-clause-stops_reading g c = λ failed.
     let stopped = c.in_err-next.ensures.stopped in
     where_told StopsReading _ _ _ _ (λ input told.
     let front = c.loop-next.invariant.told input told in
-    (front.0, stops_reading input c.loop-next.reader c.next_line.new.self _ _ front.0 c.loop-next.script.stage stopped.0 front.2 stopped.1 stopped.2 (c.in_err-next.ensures.all_used (ap (λ (e : Failure). Err e) device)), front.1))
+    (front.0, stops_reading input c.loop-next.reader c.next_line.new.self _ _ _ front.0 c.loop-next.script.stage stopped.0 front.2 stopped.1 stopped.2 (c.in_err-next.ensures.all_used (ap (λ (e : Failure). Err e) device)), front.1))
 
 pub returns-in_err-next-clause-stops_for_memory : goal.returns-in_err-next-clause-stops_for_memory
 returns-in_err-next-clause-stops_for_memory g c = λ memory.
     let stopped = c.in_err-next.ensures.stopped in
     where_told StopsForMemory _ _ _ _ (λ input told.
     let front = c.loop-next.invariant.told input told in
-    (front.0, stops_for_memory input c.loop-next.reader _ _ front.0 c.loop-next.script.stage stopped.0 front.2 stopped.1, front.1))
+    (front.0, stops_for_memory input c.loop-next.reader _ _ _ front.0 c.loop-next.script.stage stopped.0 front.2 stopped.1, front.1))
 
 pub returns-in-End-clause-whole : goal.returns-in-End-clause-whole
 returns-in-End-clause-whole g c =
@@ -39,7 +39,7 @@ returns-in-End-clause-whole g c =
     let next = rw c.in-End.is at (c.in_ok-next.ensures.next c.loop-next.invariant.fresh) in
     where_told (λ input left output. IsOutput input output) _ (g.R.ByteSource.remaining c.next_line.new.source) _ _ (λ input told.
     let front = c.loop-next.invariant.told input told in
-    (front.0, (ends_whole input c.loop-next.reader c.next_line.new.self _ _ front.0 c.loop-next.script.stage line.0 front.2 line.1 next).1, front.1))
+    (front.0, (ends_whole input c.loop-next.reader c.next_line.new.self _ _ _ front.0 c.loop-next.script.stage line.0 front.2 line.1 next).1, front.1))
 
 pub returns-in_err-reply_to-clause-stops_reading : goal.returns-in_err-reply_to-clause-stops_reading
 returns-in_err-reply_to-clause-stops_reading g c = λ failed. absurd (omega (arith, failed, c.in_ok-next.ensures.ok, c.loop-next.invariant.read))
@@ -51,11 +51,11 @@ returns-in_err-reply_to-clause-stops_writing g c = λ failed.
     let part = c.in_err-reply_to.ensures.front (ap (λ (e : Failure). Err e) device) in
     let line = c.in_ok-next.ensures.line in
     let next = c.in_ok-next.ensures.next c.loop-next.invariant.fresh in
-    where_told StopsWriting _ _ _ _ (λ input told.
+    where_told (λ input left output. StopsWriting input left (g.R.ByteSource.last_read c.next_line.new.source) output) _ _ _ _ (λ input told.
     let front = c.loop-next.invariant.told input told in
-    let taken = serving_read input c.loop-next.reader c.next_line.new.self _ _ front.0 c.loop-next.script.stage line.0 c.in_ok-next.next front.2 line.1 line.2 c.loop-next.invariant.limit next c.in_default.not-End in (
+    let taken = serving_read input c.loop-next.reader c.next_line.new.self _ _ _ (g.R.ByteSource.last_read c.next_line.new.source) front.0 c.loop-next.script.stage line.0 c.in_ok-next.next front.2 line.1 line.2 line.3 c.loop-next.invariant.limit next c.in_default.not-End in (
       front.0 ++ take part.1 part.0,
-      stops_writing input c.next_line.new.self _ front.0 c.loop-next.script.stage c.reply_to.new.script.stage taken.0 part.0 c.in_ok-next.next part.1 taken.2 taken.1 part.2 part.3,
+      stops_writing input c.next_line.new.self _ (g.R.ByteSource.last_read c.next_line.new.source) front.0 c.loop-next.script.stage c.reply_to.new.script.stage taken.0 part.0 c.in_ok-next.next part.1 taken.2 taken.1 part.2 part.3,
       Appends-trans _ _ _ _ _ front.1 part.4,
     ))
 
@@ -66,8 +66,8 @@ returns-in_err-reply_to-clause-stops_for_memory g c =
     let next = c.in_ok-next.ensures.next c.loop-next.invariant.fresh in
     rw (p.1, p.2) (λ memory. where_told StopsForMemory _ _ _ _ (λ input told.
     let front = c.loop-next.invariant.told input told in
-    let taken = serving_read input c.loop-next.reader c.next_line.new.self _ _ front.0 c.loop-next.script.stage line.0 c.in_ok-next.next front.2 line.1 line.2 c.loop-next.invariant.limit next c.in_default.not-End in
-    (front.0, stops_for_memory_at_line input c.next_line.new.self _ front.0 c.loop-next.script.stage _ taken.2, Appends-kept _ _ _ _ front.1 (c.in_err-reply_to.ensures.unwritten memory))))
+    let taken = serving_read input c.loop-next.reader c.next_line.new.self _ _ _ (g.R.ByteSource.last_read c.next_line.new.source) front.0 c.loop-next.script.stage line.0 c.in_ok-next.next front.2 line.1 line.2 line.3 c.loop-next.invariant.limit next c.in_default.not-End in
+    (front.0, stops_for_memory_at_line input c.next_line.new.self _ (g.R.ByteSource.last_read c.next_line.new.source) front.0 c.loop-next.script.stage _ taken.2, Appends-kept _ _ _ _ front.1 (c.in_err-reply_to.ensures.unwritten memory))))
 
 pub returns-in_err-reply_to-clause-device : goal.returns-in_err-reply_to-clause-device
 returns-in_err-reply_to-clause-device g c =
@@ -96,7 +96,7 @@ returns-in-End-clause-at_end g c =
     let next = rw c.in-End.is at (c.in_ok-next.ensures.next c.loop-next.invariant.fresh) in
     if_some_from _ _ (λ input told.
     let front = c.loop-next.invariant.told input told in
-    (ends_whole input c.loop-next.reader c.next_line.new.self _ (g.R.ByteSource.remaining c.next_line.new.source) front.0 c.loop-next.script.stage line.0 front.2 line.1 next).0)
+    (ends_whole input c.loop-next.reader c.next_line.new.self _ (g.R.ByteSource.remaining c.next_line.new.source) _ front.0 c.loop-next.script.stage line.0 front.2 line.1 next).0)
 
 pub loop-next-preserved : goal.loop-next-preserved
 loop-next-preserved g c =
@@ -108,7 +108,7 @@ loop-next-preserved g c =
       limit = c.in_ok-next.ensures.limit ∙ c.loop-next.invariant.limit;
       told = λ input told.
           let front = c.loop-next.invariant.told input told in
-          serving_on input c.loop-next.reader c.next_line.new.self _ _ _ _ _ front.0 c.loop-next.script.stage c.reply_to.new.script.stage line.0 c.in_ok-next.next replied.0 front.2 line.1 line.2 c.loop-next.invariant.limit next c.in_default.not-End replied.1 front.1 replied.2;
+          serving_on input c.loop-next.reader c.next_line.new.self _ _ _ _ _ _ (g.R.ByteSource.last_read c.next_line.new.source) front.0 c.loop-next.script.stage c.reply_to.new.script.stage line.0 c.in_ok-next.next replied.0 front.2 line.1 line.2 line.3 c.loop-next.invariant.limit next c.in_default.not-End replied.1 front.1 replied.2;
       read = c.in_ok-next.ensures.ok ∙ c.loop-next.invariant.read;
       written = c.in_ok-reply_to.ensures.ok ∙ c.loop-next.invariant.written;
     }
@@ -123,7 +123,7 @@ loop-next-preserved-in_ok-reply_to g c =
       limit = c.in_ok-next.ensures.limit ∙ c.loop-next.invariant.limit;
       told = λ input told.
           let front = c.loop-next.invariant.told input told in
-          serving_on input c.loop-next.reader c.next_line.new.self _ _ _ _ _ front.0 c.loop-next.script.stage c.reply_to.new.script.stage line.0 c.in_ok-next.next replied.0 front.2 line.1 line.2 c.loop-next.invariant.limit next c.in_default.not-End replied.1 front.1 replied.2;
+          serving_on input c.loop-next.reader c.next_line.new.self _ _ _ _ _ _ (g.R.ByteSource.last_read c.next_line.new.source) front.0 c.loop-next.script.stage c.reply_to.new.script.stage line.0 c.in_ok-next.next replied.0 front.2 line.1 line.2 line.3 c.loop-next.invariant.limit next c.in_default.not-End replied.1 front.1 replied.2;
       read = c.in_ok-next.ensures.ok ∙ c.loop-next.invariant.read;
       written = c.in_ok-reply_to.ensures.ok ∙ c.loop-next.invariant.written;
     }

@@ -10,7 +10,7 @@ abbrev pub invariant-loop-next : goal.invariant-loop-next
 invariant-loop-next g l = record {
   fresh : l.reader.under_way ≡ Some [];
   limit : l.reader.limit ≡ LONGEST_LINE;
-  told : (input : List ℕ) → g.R.ByteSource.remaining l.initial.source ≡ Some input → (output : List ℕ) × Appends (g.W.ByteSink.contents l.initial.sink) (g.W.ByteSink.contents l.sink) output × IsServing input l.reader (g.R.ByteSource.remaining l.source) output l.script.stage [];
+  told : (input : List ℕ) → g.R.ByteSource.remaining l.initial.source ≡ Some input → (output : List ℕ) × Appends (g.W.ByteSink.contents l.initial.sink) (g.W.ByteSink.contents l.sink) output × IsServing input l.reader (g.R.ByteSource.remaining l.source) (g.R.ByteSource.last_read l.source) output l.script.stage [];
   read : g.R.ByteSource.faults l.source ≡ g.R.ByteSource.faults l.initial.source;
   written : g.W.ByteSink.faults l.sink ≡ g.W.ByteSink.faults l.initial.sink;
 }
