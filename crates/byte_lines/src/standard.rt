@@ -11,6 +11,7 @@ use std::io::{Read, Stdin, Stdout, Write};
 pub struct ReaderSource<R: Read> {
     reader: R,
     reads_left: u64,
+    /// For contracts alone.
     last_read: usize,
     faults: FaultCount,
 }
