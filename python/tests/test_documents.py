@@ -125,7 +125,7 @@ class Documents(unittest.TestCase):
                     with self.subTest(document=name, path=path):
                         self.assertTrue(os.path.exists(os.path.join(TOP, path)))
 
-    @unittest.skipUnless(os.path.isdir(os.path.join(TOP, ".git")), "not a clone")
+    @unittest.skipUnless(os.path.isdir(os.path.join(TOP, ".git")) and shutil.which("git"), "no clone")
     def test_nothing_is_kept_that_a_tool_made(self):
         """Caches and builds aren't in the repository."""
         listed = ["git", "-c", "safe.directory=*", "-C", TOP, "ls-files"]

@@ -239,13 +239,13 @@ class Endings(unittest.TestCase):
             [*ending.lines_of(its)],
             ["nothing was checked: no application connected to the database shop through the proxy"],
         )
-        why = "the server asks it for no credential"
+        why = "the server asks for no credential"
         its = status(seen=seen_of({"connections": {"refused": {why: 2}}}), database="shop")
         first, second = ending.lines_of(its)
         self.assertEqual(
             first, "nothing was checked: the proxy refused each connection to the database shop"
         )
-        begins = f"  the proxy refused 2 connections, since {why}: give its role a password"
+        begins = f"  the proxy refused 2 connections, since {why}: give the role a password"
         self.assertEqual(second[: len(begins)], begins)
         its = status(
             seen=seen_of(feed.coverage(totals={})), database="shop"

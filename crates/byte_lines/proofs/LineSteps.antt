@@ -98,7 +98,6 @@ midway-end old mid new a b next m none none_new at_end last =
       handed = subst (λ line. IsLast line next) (m.stops.front ∙ ap (grown old.limit old.under_way) (sym all)) last;
     }
 
--- then no LF was ahead before
 -- none of the bytes that were used up is an LF
 pub all_no_lf : (old mid : LineState) (a b : Option (List ℕ)) (m : IsMidway old mid a b) → mid.ahead ≡ [] → HasNoLf (old.ahead ++ m.read)
 all_no_lf old mid a b m none = subst HasNoLf (sym (all_used old mid a b m none)) m.stops.no_lf
@@ -107,6 +106,7 @@ all_no_lf old mid a b m none = subst HasNoLf (sym (all_used old mid a b m none))
 pub before_lf : (mid new : LineState) (next : Next) (last : ℕ) → length mid.ahead ≤ last → EndsAtLf mid new mid.ahead next → length new.ahead < last
 before_lf mid new next last within e = omega (arith, within, ap (λ (bytes : List ℕ). length bytes) e.cut, length-append e.piece (10 ∷ new.ahead))
 
+-- then no LF was ahead before
 pub midway-no_lf : (old mid : LineState) (a b : Option (List ℕ)) → IsMidway old mid a b → mid.ahead ≡ [] → Contains old.ahead 10 → ⊥
 midway-no_lf old mid a b m none has =
     All-contains (λ x. x ≢ 10) m.stops.piece 10 m.stops.no_lf (subst (λ xs. Contains xs 10) (all_used old mid a b m none) (Contains-append_left old.ahead m.read 10 has)) refl

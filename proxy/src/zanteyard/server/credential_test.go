@@ -144,7 +144,7 @@ func TestOwnCredential(t *testing.T) {
 			}
 			// What isn't audited isn't counted.
 			counts := x.refused == trusted && !strings.Contains(x.more, "replication") && !strings.Contains(x.more, "template1")
-			if why := told.refusal(counts); (why != "") != counts || counts && why != "the server asks it for no credential" {
+			if why := told.refusal(counts); (why != "") != counts || counts && why != "the server asks for no credential" {
 				t.Errorf("counted as refused: %q", why)
 			}
 		})

@@ -180,12 +180,12 @@ func (s *Server) serve(ctx context.Context, raw net.Conn) {
 	}
 	if s.lacksTLS(raw, client) {
 		s.complain(raw, errNeedTLS)
-		s.refused(first, "it came without TLS, which --require-tls asks for")
+		s.refused(first, "TLS is required (--require-tls)")
 		return
 	}
 	if !s.admit() {
 		client.Write(s.tooMany())
-		s.refused(first, "there were --most-connections already")
+		s.refused(first, "there were too many (--most-connections)")
 		return
 	}
 	defer s.dismiss()
@@ -202,9 +202,9 @@ func (s *Server) serve(ctx context.Context, raw net.Conn) {
 		s.complain(raw, err)
 		switch {
 		case errors.Is(err, errTrusted):
-			s.refused(first, "the server asks it for no credential")
+			s.refused(first, "the server asks for no credential")
 		case errors.Is(err, errForeign):
-			s.refused(first, "the server asks it for a credential that can't pass through a proxy")
+			s.refused(first, "the server asks for a credential that can't pass through a proxy")
 		}
 		return
 	}

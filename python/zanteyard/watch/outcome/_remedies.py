@@ -59,8 +59,8 @@ REMEDIES: Sequence[tuple[str, str]] = (
     ("WITH", "run it as a SELECT of its own"),
     ("a view", "use its tables"),
     (
-        "the server asks it for no credential",
-        "give its role a password and its rule in pg_hba.conf scram-sha-256, or use "
+        "the server asks for no credential",
+        "give the role a password, and its rule in pg_hba.conf scram-sha-256; or use "
         "--trust-clients",
     ),
     ("a materialized view", "select from its tables"),
