@@ -331,9 +331,9 @@ def too_many():
 
 
 def crate_rows():
-    """The rows of crates/snapshot_tests: each row's sessions in the form of lines, and its two
+    """The rows of crates/isolation_tests: each row's sessions in the form of lines, and its two
     verdicts."""
-    path = os.path.join(TOP, "crates/snapshot_tests/src/histories.rt")
+    path = os.path.join(TOP, "crates/isolation_tests/src/histories.rt")
     with open(path, encoding="utf-8") as file:
         text = file.read()
     kinds = {"Serial": "serial", "Violated": "violated", "Pending": "pending"}

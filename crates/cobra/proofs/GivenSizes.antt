@@ -19,9 +19,9 @@ use Rattle.log_text.specs.declared.replies.Reply.{Reply}
 use Rattle.log_text.specs.declared.replies.Reply.TheVariants as told
 use Rattle.log_text.specs.declared.saved.Saved.{Saved}
 use Rattle.log_text.specs.declared.saved.Saved.TheVariants as saved
-use Rattle.snapshot_scripts.specs.Isolated.{isolated_of, whole_writer}
-use Rattle.snapshot_scripts.specs.Splitting.{split_wanted}
-use Rattle.snapshot_scripts.specs.Wholes.{begun_txns, whole_read, whole_txn, whole_txns}
+use Rattle.isolation_scripts.specs.Isolated.{isolated_of, whole_writer}
+use Rattle.isolation_scripts.specs.Splitting.{split_wanted}
+use Rattle.isolation_scripts.specs.Wholes.{begun_txns, whole_read, whole_txn, whole_txns}
 use Rattle.cobra.specs.Checkpoints.{GivenOutFits}
 use Rattle.cobra.specs.Saving.{first_told, fragment_told, saved_told, writers_from}
 

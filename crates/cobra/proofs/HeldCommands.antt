@@ -26,7 +26,7 @@ use Rattle.round_state.specs.declared.steps.Step.{Step}
 use Rattle.round_state.specs.declared.steps.Step.TheVariants as step
 use Rattle.round_state.specs.declared.steps.StepReply.{StepReply}
 use Rattle.round_state.specs.declared.steps.StepReply.TheVariants as reply
-use Rattle.snapshot_histories.specs.Offered.{HasOfferedLengths, CanBeOffered, OfferedFault}
+use Rattle.isolation_histories.specs.Offered.{HasOfferedLengths, CanBeOffered, OfferedFault}
 use Rattle.cobra.specs.Audits.{AuditState}
 use Rattle.cobra.specs.Held.{IsEnough}
 use Rattle.cobra.specs.Scripts.{Goes, IsStep, IsTakenIn, AnswersOpen, AnswersBeside, AnswersIsolated, BeginsAnew, AnswersResuming}

@@ -4,8 +4,8 @@ use Rattle.log_text.specs.declared.commands.Command.{Command}
 use Rattle.log_text.specs.declared.replies.Reply.{Reply}
 use Rattle.log_text.specs.declared.versions.Version.{Version}
 use Rattle.log_text.specs.Versions.{most_sessions}
-use Rattle.snapshot_scripts.specs.Isolated.{isolated_of}
-use Rattle.snapshot_scripts.specs.Splitting.{CanBeAsked, split_command}
+use Rattle.isolation_scripts.specs.Isolated.{isolated_of}
+use Rattle.isolation_scripts.specs.Splitting.{CanBeAsked, split_command}
 use Rattle.cobra.specs.Audits.{AuditState}
 use Rattle.cobra.specs.Scripts.{AnswersBeside, AnswersIsolated}
 

@@ -31,11 +31,11 @@ use Rattle.log_text.specs.declared.versions.Opening.TheVariants.{Isolated}
 use Rattle.log_text.specs.declared.versions.Version.{Version}
 use Rattle.log_text.specs.Saved.{untold}
 use Rattle.log_text.specs.Versions.{most_sessions}
-use Rattle.snapshot_scripts.specs.Given.{GivenIsTaken, IsPlace, IsTakenBack, halves_from}
-use Rattle.snapshot_scripts.specs.Handed.{taken_fragment, taken_half}
-use Rattle.snapshot_scripts.specs.Isolated.{halved, half_begun, isolated_of, whole_writer}
-use Rattle.snapshot_scripts.specs.SplitParts.{AreHalvesFrom, AreSplitParts, IsKeyOf}
-use Rattle.snapshot_scripts.specs.Wholes.{whole_fragment}
+use Rattle.isolation_scripts.specs.Given.{GivenIsTaken, IsPlace, IsTakenBack, halves_from}
+use Rattle.isolation_scripts.specs.Handed.{taken_fragment, taken_half}
+use Rattle.isolation_scripts.specs.Isolated.{halved, half_begun, isolated_of, whole_writer}
+use Rattle.isolation_scripts.specs.SplitParts.{AreHalvesFrom, AreSplitParts, IsKeyOf}
+use Rattle.isolation_scripts.specs.Wholes.{whole_fragment}
 use Rattle.cobra.specs.Checkpoints.{AreSessionsTold, AreTaken, AreTxnsTold, AreWritersTold, IsCheckpoint, IsLast, IsolatedOutIsTaken}
 use Rattle.cobra.specs.HandOver.{IsNextOffer, handed_first, handed_offer}
 use Rattle.cobra.specs.Saving.{first_told, handing_of, isolated_told, writers_from}

@@ -15,7 +15,7 @@ use Rattle.round_state.specs.declared.steps.StepReply.{StepReply}
 use Rattle.round_state.specs.declared.steps.StepReply.TheVariants as reply
 use Rattle.cobra.specs.LastTold.{Fits, IsToldOf}
 use Rattle.cobra.specs.Scripts.{Finishes}
-use Rattle.script_searches.specs.Searches.{MayAnswer}
+use Rattle.background_search.specs.Searches.{MayAnswer}
 use Rattle.cobra.specs.Searches.{MayAnswerOf}
 use Rattle.cobra.specs.declared.last_told.LastTold.{LastTold}
 use Rattle.cobra.specs.declared.last_told.Told.{Told}

@@ -27,8 +27,8 @@ use Rattle.round_state.specs.declared.steps.Step.{Step}
 use Rattle.round_state.specs.declared.steps.Step.TheVariants as step
 use Rattle.round_state.specs.declared.steps.StepReply.{StepReply}
 use Rattle.round_state.specs.declared.steps.StepReply.TheVariants as reply
-use Rattle.snapshot_scripts.specs.Handed.{half_command, half_marks}
-use Rattle.snapshot_scripts.specs.Splitting.{split_command}
+use Rattle.isolation_scripts.specs.Handed.{half_command, half_marks}
+use Rattle.isolation_scripts.specs.Splitting.{split_command}
 use Rattle.cobra.specs.Audits.{AuditState, unsearched}
 use Rattle.cobra.specs.HandOver.{handed_parts}
 use Rattle.cobra.specs.Limits.{BoundsStay, HasBoundsFor, IsLimitFor, KeepsBounds}

@@ -36,9 +36,9 @@ use Rattle.log_text.specs.declared.versions.Version.{Version}
 use Rattle.log_text.specs.declared.versions.Version.TheVariants.{One}
 use Rattle.logged_fragments.specs.declared.logged.LoggedFragment.{LoggedFragment}
 use Rattle.log_text.specs.declared.commands.Effort.{Effort}
-use Rattle.snapshot_scripts.specs.Handed.{half_command, half_marks}
-use Rattle.snapshot_scripts.specs.Isolated.{isolated_of}
-use Rattle.snapshot_scripts.specs.Splitting.{split_command}
+use Rattle.isolation_scripts.specs.Handed.{half_command, half_marks}
+use Rattle.isolation_scripts.specs.Isolated.{isolated_of}
+use Rattle.isolation_scripts.specs.Splitting.{split_command}
 use Rattle.cobra.specs.Audits.{AuditState}
 use Rattle.cobra.specs.declared.handing.Handing.{Handing}
 use Rattle.cobra.specs.declared.stages.Stage.{Stage}

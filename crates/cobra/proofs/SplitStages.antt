@@ -23,11 +23,11 @@ use Rattle.round_state.specs.declared.steps.Step.TheVariants as step
 use Rattle.round_state.specs.declared.steps.StepReply.{StepReply}
 use Rattle.round_state.specs.declared.steps.StepReply.TheVariants as reply
 use Rattle.log_text.specs.declared.commands.Effort.{Effort}
-use Rattle.snapshot_histories.specs.Logged.{split_logged}
-use Rattle.snapshot_histories.specs.Splittable.{HasLowNumbers}
-use Rattle.snapshot_scripts.specs.SplitParts.{AreHalvesFrom, IsSplitEngine, SplitEnginesStay}
-use Rattle.snapshot_scripts.specs.Splitting.{CanBeAsked, split_command}
-use Rattle.snapshot_scripts.specs.Steps.{split_step, CanBeMade}
+use Rattle.isolation_histories.specs.Logged.{split_logged}
+use Rattle.isolation_histories.specs.Splittable.{HasLowNumbers}
+use Rattle.isolation_scripts.specs.SplitParts.{AreHalvesFrom, IsSplitEngine, SplitEnginesStay}
+use Rattle.isolation_scripts.specs.Splitting.{CanBeAsked, split_command}
+use Rattle.isolation_scripts.specs.Steps.{split_step, CanBeMade}
 use Rattle.cobra.specs.Audits.{AuditState}
 use Rattle.cobra.specs.Scripts.{IsTakenIn, Goes, IsStep, EndsRound, IsRound, AnswersOpen, AnswersBeside, AnswersIsolated, GoesOn, IsCollected}
 use Rattle.cobra.specs.SplitStages.{IsolatedStays}

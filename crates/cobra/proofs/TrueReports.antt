@@ -47,19 +47,19 @@ use Rattle.round_state.specs.declared.steps.StepReply.TheVariants as reply
 use Rattle.settle.specs.declared.cuts.Cut.{Cut}
 use Rattle.log_text.specs.declared.commands.Effort.{Effort}
 use Rattle.gone_orders.specs.Behind.{RemainsBehind}
-use Rattle.snapshot_histories.specs.Halves.{commit_half, event_at}
-use Rattle.snapshot_histories.specs.Laws.{OrdersIsolate, SplitDoublesCounts, SplitKeepsVerdict}
-use Rattle.snapshot_histories.specs.Snapshot.{IsSnapshotOrder}
-use Rattle.snapshot_histories.specs.Split.{split_history, HistoryCanBeSplit}
-use Rattle.snapshot_scripts.specs.Legal.{IsIsolationOf, HasReceived, HoldsSplit, split_state, NothingIsSplit, SplitStepsAreLegal, SplitStepsFollow, FreshEnginesAreSplit}
-use Rattle.snapshot_scripts.specs.Telling.{CommittedAreOfCommits, HalvedCountsAreWhole}
-use Rattle.snapshot_histories.specs.Logged.{split_logged}
-use Rattle.snapshot_histories.specs.Offered.{CanBeOffered}
-use Rattle.snapshot_scripts.specs.Steps.{split_step, CanBeMade}
-use Rattle.snapshot_rests.specs.Behind.{KeepsBehind}
-use Rattle.snapshot_scripts.specs.Isolated.{halved, isolated_of}
-use Rattle.snapshot_scripts.specs.Handed.{CanBeHanded, half_command, half_marks}
-use Rattle.snapshot_scripts.specs.Splitting.{CanBeAsked, split_command, split_wanted}
+use Rattle.isolation_histories.specs.Halves.{commit_half, event_at}
+use Rattle.isolation_histories.specs.Laws.{OrdersIsolate, SplitDoublesCounts, SplitKeepsVerdict}
+use Rattle.isolation_histories.specs.Snapshot.{IsSnapshotOrder}
+use Rattle.isolation_histories.specs.Split.{split_history, HistoryCanBeSplit}
+use Rattle.isolation_scripts.specs.Legal.{IsIsolationOf, HasReceived, HoldsSplit, split_state, NothingIsSplit, SplitStepsAreLegal, SplitStepsFollow, FreshEnginesAreSplit}
+use Rattle.isolation_scripts.specs.Telling.{CommittedAreOfCommits, HalvedCountsAreWhole}
+use Rattle.isolation_histories.specs.Logged.{split_logged}
+use Rattle.isolation_histories.specs.Offered.{CanBeOffered}
+use Rattle.isolation_scripts.specs.Steps.{split_step, CanBeMade}
+use Rattle.isolation_rests.specs.Behind.{KeepsBehind}
+use Rattle.isolation_scripts.specs.Isolated.{halved, isolated_of}
+use Rattle.isolation_scripts.specs.Handed.{CanBeHanded, half_command, half_marks}
+use Rattle.isolation_scripts.specs.Splitting.{CanBeAsked, split_command, split_wanted}
 use Rattle.whole_orders.specs.Isolated.{EndsSnapshotOrder}
 use Rattle.whole_orders.specs.Laws.{FreshEnginesGoOn, LeftPartsGoOn, ReportedOrdersEndOrders, StepsGoOn}
 use Rattle.whole_orders.specs.Left.{EndsOrder, EndsOrderIfAny, HoldsLeft, IsLeftOf}

@@ -2,7 +2,7 @@
 use Rattle.std.specs.Prelude.{◌≡◌, Option, Some, None, IfSome, MatchOption}
 use Rattle.order_check.specs.declared.remainder.Parts.{Parts}
 use Rattle.round_state.specs.EngineState.{EngineState}
-use Rattle.script_searches.specs.UnderWay.{SearchOf}
+use Rattle.background_search.specs.UnderWay.{SearchOf}
 use Rattle.log_text.specs.declared.commands.Effort.{Effort}
 
 -- An engine, and what the search was given that was begun beside the script for the round that is open, where one was and isn't collected yet.

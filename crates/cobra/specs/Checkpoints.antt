@@ -18,7 +18,7 @@ use Rattle.log_text.specs.declared.versions.Version.{Version}
 use Rattle.log_text.specs.Laws.{IsGivenAtOnce}
 use Rattle.log_text.specs.Saved.{handed_by}
 use Rattle.log_text.specs.Versions.{most_sessions}
-use Rattle.snapshot_scripts.specs.SplitParts.{AreSplitParts}
+use Rattle.isolation_scripts.specs.SplitParts.{AreSplitParts}
 use Rattle.cobra.specs.HandOver.{AreGoodParts, handed_parts}
 use Rattle.cobra.specs.Saving.{handing_of, isolated_told, saved_told}
 use Rattle.cobra.specs.Scripts.{Answers, IsIsolatedLimit, IsVersionLimit, Resumes}

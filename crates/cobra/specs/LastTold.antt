@@ -3,7 +3,7 @@ use Rattle.std.specs.Prelude.{◌≡◌, true, IfSome}
 use Rattle.order_check.specs.declared.remainder.Parts.{Parts}
 use Rattle.polygraph.specs.declared.solving.Answer.TheVariants as answers
 use Rattle.round_state.specs.EngineState.{EngineState}
-use Rattle.script_searches.specs.Searches.{MayAnswer}
+use Rattle.background_search.specs.Searches.{MayAnswer}
 use Rattle.cobra.specs.declared.last_told.LastTold.{LastTold}
 use Rattle.cobra.specs.declared.last_told.Told.{Told}
 

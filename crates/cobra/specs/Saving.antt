@@ -11,8 +11,8 @@ use Rattle.log_text.specs.declared.commands.Wanted.TheVariants as wanted
 use Rattle.log_text.specs.declared.replies.Reply.{Reply}
 use Rattle.log_text.specs.declared.replies.Reply.TheVariants as told
 use Rattle.log_text.specs.declared.saved.Saved.TheVariants as saved
-use Rattle.snapshot_scripts.specs.Isolated.{isolated_of}
-use Rattle.snapshot_scripts.specs.Splitting.{split_wanted}
+use Rattle.isolation_scripts.specs.Isolated.{isolated_of}
+use Rattle.isolation_scripts.specs.Splitting.{split_wanted}
 use Rattle.cobra.specs.declared.handing.Handing.{Handing}
 
 -- the last gone writers of the keys from this one on, keys rising

@@ -30,9 +30,9 @@ use Rattle.round_state.specs.declared.steps.Step.TheVariants as step
 use Rattle.round_state.specs.declared.steps.StepReply.{StepReply}
 use Rattle.round_state.specs.declared.steps.StepReply.TheVariants as reply
 use Rattle.log_text.specs.declared.commands.Effort.{Effort}
-use Rattle.snapshot_scripts.specs.Handed.{HaveHalves, CanBeHanded, half_command, half_marks}
-use Rattle.snapshot_scripts.specs.Isolated.{isolated_of}
-use Rattle.snapshot_scripts.specs.Splitting.{CanBeAsked, IsAskedFault, split_command}
+use Rattle.isolation_scripts.specs.Handed.{HaveHalves, CanBeHanded, half_command, half_marks}
+use Rattle.isolation_scripts.specs.Isolated.{isolated_of}
+use Rattle.isolation_scripts.specs.Splitting.{CanBeAsked, IsAskedFault, split_command}
 use Rattle.cobra.specs.Audits.{AuditState, unsearched}
 use Rattle.cobra.specs.HandOver.{AreOfSessions, AreGoodParts, IsHandRefusal, IsMarksRefusal, IsNextOffer, IsResumedRefusal, handed_first, handed_offer, handed_parts, handed_writers}
 use Rattle.cobra.specs.Saving.{saved_told}

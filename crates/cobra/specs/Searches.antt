@@ -6,7 +6,7 @@ use Rattle.polygraph.specs.declared.solving.Answer.{Answer}
 use Rattle.round_state.specs.Steps.{answer_told}
 use Rattle.round_state.specs.declared.steps.StepReply.{StepReply}
 use Rattle.round_state.specs.declared.steps.StepReply.TheVariants as reply
-use Rattle.script_searches.specs.Searches.{MayAnswer}
+use Rattle.background_search.specs.Searches.{MayAnswer}
 
 -- what the search of this name may answer for the parts of an open round, if one is open
 abbrev pub MayAnswerOf : Search → Option Parts → ℕ → ℕ → Answer → Type 0

@@ -4,7 +4,7 @@ use Rattle.log_text.specs.declared.commands.Command.{Command}
 use Rattle.log_text.specs.declared.replies.Reply.{Reply}
 use Rattle.log_text.specs.declared.versions.Version.{Version}
 use Rattle.round_state.specs.Opening.{fresh}
-use Rattle.snapshot_scripts.specs.SplitParts.{IsSplitEngine}
+use Rattle.isolation_scripts.specs.SplitParts.{IsSplitEngine}
 use Rattle.cobra.specs.Audits.{AuditState}
 use Rattle.cobra.specs.Scripts.{AnswersIsolated}
 

@@ -18,10 +18,10 @@ use Rattle.round_state.specs.Legal.{IsTrueOf}
 use Rattle.round_state.specs.Opening.{no_history}
 use Rattle.round_state.specs.Steps.{arrival_of}
 use Rattle.gone_orders.specs.Behind.{RemainsBehind}
-use Rattle.snapshot_histories.specs.Halves.{commit_half, event_at}
-use Rattle.snapshot_histories.specs.Split.{split_history, HistoryCanBeSplit}
-use Rattle.snapshot_rests.specs.Behind.{KeepsBehind}
-use Rattle.snapshot_scripts.specs.Legal.{IsIsolationOf}
+use Rattle.isolation_histories.specs.Halves.{commit_half, event_at}
+use Rattle.isolation_histories.specs.Split.{split_history, HistoryCanBeSplit}
+use Rattle.isolation_rests.specs.Behind.{KeepsBehind}
+use Rattle.isolation_scripts.specs.Legal.{IsIsolationOf}
 use Rattle.whole_orders.specs.Isolated.{EndsSnapshotOrder}
 use Rattle.whole_orders.specs.Left.{EndsOrder, IsLeftOf}
 use Rattle.engine_pasts.specs.Holding.{HoldsBehind}

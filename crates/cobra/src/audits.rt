@@ -8,10 +8,10 @@ ghost use Rattle.cobra.specs.Scripts.{Finishes, Goes, IsStep, IsRound, BeginsSea
 use crate::open_engine::OpenEngine;
 use crate::replies::reply_of;
 use crate::rounds::make_round;
+use background_search::{Effort, Solvers, UnderWay};
 use log_text::Reply;
 use polygraph::{PlainSolver, Problem, Solver};
 use round_state::{Engine, Step, StepReply};
-use script_searches::{Effort, Solvers, UnderWay};
 use std::alloc::Global;
 use std::marker::Model;
 use std::thread::{Scope, Threads};

@@ -7,9 +7,9 @@ ghost use Rattle.cobra.specs.LastTold.{Fits};
 ghost use Rattle.cobra.specs.Scripts.{Finishes};
 ghost use Rattle.cobra.specs.Searches.{MayAnswerOf};
 
+use background_search::{Effort, is_same};
 use log_text::Search;
 use round_state::{Certificate, Step, StepReply};
-use script_searches::{Effort, is_same};
 use txn::{Sequence, TxnId};
 
 /// An order, and what the search that told it was given. Workers make no difference to it.

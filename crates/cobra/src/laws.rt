@@ -7,8 +7,8 @@ use engine_pasts::{
     fresh_engines_hold_behind, halves_are_told_behind, parts_hold_behind,
     reported_orders_stand_behind, steps_hold_behind,
 };
-use snapshot_histories::{orders_isolate, split_doubles_counts, split_keeps_verdict};
-use snapshot_scripts::{
+use isolation_histories::{orders_isolate, split_doubles_counts, split_keeps_verdict};
+use isolation_scripts::{
     committed_are_of_commits, fresh_engines_are_split, halved_counts_are_whole, nothing_is_split,
     split_engines_stay, split_steps_are_legal, split_steps_follow,
 };

@@ -19,6 +19,7 @@ mod serving;
 mod showing;
 mod stages;
 
+pub use background_search::Solvers;
 pub use beginnings::{may_begin_isolated, may_begin_ordered};
 pub use byte_lines::{
     ByteSink, ByteSource, DeviceFault, Exit, Failure, LONGEST_LINE, LineReader, MemorySink,
@@ -32,7 +33,6 @@ pub use replies::{claim_of, cut_of, reply_of, report_of};
 pub use saving::{
     given_out_fits, given_out_is_taken, isolated_out_is_taken, saved_told, wider_bounds_are_kept,
 };
-pub use script_searches::Solvers;
 pub use scripts::command_in;
 pub use serving::serve;
 pub use showing::state_told;

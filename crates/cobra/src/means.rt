@@ -1,4 +1,4 @@
-use script_searches::Solvers;
+use background_search::Solvers;
 use std::alloc::Global;
 use std::thread::Scope;
 

@@ -10,10 +10,10 @@ ghost use Rattle.cobra.specs.Searches.{MayAnswerOf};
 
 use crate::last_told::LastTold;
 use crate::searches::solve;
+use background_search::{Effort, Solvers};
 use order_check::Parts;
 use polygraph::{Answer, PlainSolver, Problem, Single, Solver};
 use round_state::{Engine, Step, StepReply};
-use script_searches::{Effort, Solvers};
 use std::alloc::Global;
 use std::marker::Model;
 use txn::{Refusal, Sequence, TxnId};

@@ -9,9 +9,9 @@ use crate::audits::Audit;
 use crate::beginnings::answer_first;
 use crate::handing::Handing;
 use crate::stages::Stage;
+use isolation_scripts::{half_command, half_marks, have_halves};
 use log_text::{Command, Opening, Reply, Version};
 use logged_fragments::LoggedFragment;
-use snapshot_scripts::{half_command, half_marks, have_halves};
 use std::alloc::Global;
 use txn::{Fragment, NoMemory, Refusal, Sequence, TxnId};
 

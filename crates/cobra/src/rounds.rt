@@ -4,9 +4,9 @@ ghost use Rattle.order_check.specs.Effort.{IsEffort};
 ghost use Rattle.cobra.specs.Scripts.{EndsRound, IsRound};
 
 use crate::open_engine::OpenEngine;
+use background_search::{Effort, Solvers};
 use polygraph::{PlainSolver, Solver};
 use round_state::{Step, StepReply};
-use script_searches::{Effort, Solvers};
 use std::alloc::Global;
 
 /// Finishes the open round, or abandons it where memory is wanting.

@@ -5,10 +5,10 @@ ghost use Rattle.order_check.specs.Good.{IsGood};
 ghost use Rattle.cobra.specs.Checkpoints.{GivenOutFits, GivenOutIsTaken, IsolatedOutIsTaken, WiderBoundsAreKept};
 ghost use Rattle.cobra.specs.Saving.{writers_from, first_told, fragment_told, saved_told};
 
+use isolation_scripts::given_is_taken;
 use log_text::{Reply, Saved, Wanted};
 use order_check::Parts;
 use round_state::Engine;
-use snapshot_scripts::given_is_taken;
 use std::alloc::Global;
 use txn::{Fragment, NoMemory, Refusal, Sequence, Txn, TxnId};
 

@@ -3,9 +3,9 @@ ghost use Rattle.std.specs.Prelude.{◌≡◌};
 ghost use Rattle.order_check.specs.Effort.{IsEffort};
 ghost use Rattle.cobra.specs.Searches.{MayAnswerOf};
 
+use background_search::{Effort, Solvers, search};
 use polygraph::{Answer, PlainSolver, Solver};
 use round_state::Engine;
-use script_searches::{Effort, Solvers, search};
 use std::alloc::Global;
 
 /// What the search answers to the problem of the round that is open; where none is, nothing is searched.

@@ -19,11 +19,11 @@ use Rattle.round_state.specs.declared.reports.Report.{Report}
 use Rattle.round_state.specs.declared.steps.Step.TheVariants.{Offer, Join, Close, Begin, Finish, Judge, Abandon, Truncate, Rebuild}
 use Rattle.gone_orders.specs.Behind.{RemainsBehind}
 use Rattle.gone_orders.specs.Laws.{OrdersBehindAreOfTheWhole}
-use Rattle.snapshot_histories.specs.Halves.{event_at}
-use Rattle.snapshot_histories.specs.Laws.{OrdersIsolate}
-use Rattle.snapshot_histories.specs.Snapshot.{IsSnapshotOrder}
-use Rattle.snapshot_histories.specs.Split.{split_history}
-use Rattle.snapshot_rests.specs.Laws.{HalvesTellBehind}
+use Rattle.isolation_histories.specs.Halves.{event_at}
+use Rattle.isolation_histories.specs.Laws.{OrdersIsolate}
+use Rattle.isolation_histories.specs.Snapshot.{IsSnapshotOrder}
+use Rattle.isolation_histories.specs.Split.{split_history}
+use Rattle.isolation_rests.specs.Laws.{HalvesTellBehind}
 use Rattle.engine_pasts.specs.Holding.{EventsStandBehind, HoldsBehind, StandsBehind}
 use Rattle.engine_pasts.specs.Laws.{HalvesAreToldBehind, ReportedEventsStandBehind, ReportedOrdersStandBehind}
 

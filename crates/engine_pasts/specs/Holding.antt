@@ -9,9 +9,9 @@ use Rattle.round_state.specs.declared.reports.Certificate.{Certificate}
 use Rattle.round_state.specs.declared.reports.Certificate.TheVariants.{Order, Refuted, Nothing}
 use Rattle.round_state.specs.declared.steps.StepReply.{StepReply}
 use Rattle.round_state.specs.declared.steps.StepReply.TheVariants as reply
-use Rattle.snapshot_histories.specs.Halves.{event_at}
+use Rattle.isolation_histories.specs.Halves.{event_at}
 use Rattle.gone_orders.specs.Behind.{RemainsBehind}
-use Rattle.snapshot_rests.specs.Behind.{KeepsBehind}
+use Rattle.isolation_rests.specs.Behind.{KeepsBehind}
 use Rattle.whole_orders.specs.Left.{HoldsLeft}
 
 -- What the engine holds remains of the whole history behind what is gone, in this order, and its snapshot of what had been received when the

@@ -12,10 +12,10 @@ use Rattle.round_state.specs.declared.reports.Report.{Report}
 use Rattle.round_state.specs.declared.steps.Step.{Step}
 use Rattle.round_state.specs.declared.steps.StepReply.{StepReply}
 use Rattle.round_state.specs.declared.steps.StepReply.TheVariants as reply
-use Rattle.snapshot_histories.specs.Halves.{event_at}
-use Rattle.snapshot_histories.specs.Split.{split_history}
+use Rattle.isolation_histories.specs.Halves.{event_at}
+use Rattle.isolation_histories.specs.Split.{split_history}
 use Rattle.gone_orders.specs.Behind.{RemainsBehind}
-use Rattle.snapshot_rests.specs.Behind.{TellBehind}
+use Rattle.isolation_rests.specs.Behind.{TellBehind}
 use Rattle.engine_pasts.specs.Holding.{EventsStandBehind, HoldsBehind, MovesOn, StandsBehind}
 
 -- A fresh engine stands behind nothing.

@@ -5,8 +5,8 @@ use gone_orders::{
     arrivals_stay_behind, bare_parts_stay_behind, content_stays_behind, cuts_move_on,
     orders_behind_are_of_the_whole,
 };
-use snapshot_histories::orders_isolate;
-use snapshot_rests::halves_tell_behind;
+use isolation_histories::orders_isolate;
+use isolation_rests::halves_tell_behind;
 use whole_orders::{fresh_engines_go_on, left_parts_go_on, steps_go_on};
 
 /// A fresh engine stands behind nothing.

@@ -13,7 +13,7 @@ use Rattle.order_check.specs.declared.remainder.Kind.TheVariants as kind
 use Rattle.refutation.specs.declared.trees.Leaf.{Leaf}
 use Rattle.refutation.specs.declared.trees.Leaf.TheVariants.{Cycle, NoWrite, Gone}
 use Rattle.refutation.specs.declared.trees.Tree.{Tree, Close, Force', Split'}
-use Rattle.snapshot_histories.specs.Laws.{StarsAreOfKeys}
+use Rattle.isolation_histories.specs.Laws.{StarsAreOfKeys}
 use Rattle.log_text.specs.Items.{list_of}
 use Rattle.log_text.specs.ReadBack.{SaysReply, IsNamed, NamesInChoice, NamesInArc, NamesInStep, NamesInLeaf, NamesInTree}
 use Rattle.log_text.specs.Refutations.{node_of, nodes_of}

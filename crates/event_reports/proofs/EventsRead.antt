@@ -14,11 +14,11 @@ use Rattle.txn.specs.declared.choices.ForceStep.{ForceStep}
 use Rattle.refutation.specs.declared.trees.Leaf.{Leaf}
 use Rattle.refutation.specs.declared.trees.Leaf.TheVariants.{Cycle, NoWrite, Gone}
 use Rattle.refutation.specs.declared.trees.Tree.{Tree, Close, Force', Split'}
-use Rattle.snapshot_histories.specs.Halves as halves
-use Rattle.snapshot_histories.specs.Laws.{StarsAreOfKeys}
-use Rattle.snapshot_histories.specs.Split.{plain_key}
-use Rattle.snapshot_histories.specs.declared.events.Event.{Event}
-use Rattle.snapshot_histories.specs.declared.events.Event.TheVariants.{Begin, Commit}
+use Rattle.isolation_histories.specs.Halves as halves
+use Rattle.isolation_histories.specs.Laws.{StarsAreOfKeys}
+use Rattle.isolation_histories.specs.Split.{plain_key}
+use Rattle.isolation_histories.specs.declared.events.Event.{Event}
+use Rattle.isolation_histories.specs.declared.events.Event.TheVariants.{Begin, Commit}
 use Rattle.log_text.specs.Saved.{number_data}
 use Rattle.log_text.specs.Told.{id_data, event_data, named_id_data, choice_data, arc_data, cycle_data, step_data, split_data, leaf_data, nodes_data, tree_data}
 use Rattle.log_text.specs.declared.names.Names.TheVariants.{Ids, Events}

@@ -4,7 +4,7 @@ use Rattle.std.specs.Prelude.{ℕ, ◌+◌, ◌*◌, ◌^◌, List, [], ◌∷�
 use Rattle.serde_json.specs.Data.{Data, null, number, unsigned, string, array, Items, no_items, item}
 use Rattle.serde_json.specs.Find.{as_array, as_number, as_str, as_u64}
 use Rattle.serde_json.specs.View.{items_of}
-use Rattle.snapshot_histories.specs.Split.{star}
+use Rattle.isolation_histories.specs.Split.{star}
 
 abbrev pub or_null : Option ℕ → Data
 or_null None = null

@@ -8,10 +8,10 @@ use Rattle.txn.specs.declared.choices.ForceStep.{ForceStep}
 use Rattle.refutation.specs.declared.trees.Leaf.{Leaf}
 use Rattle.refutation.specs.declared.trees.Leaf.TheVariants.{Cycle, NoWrite, Gone}
 use Rattle.refutation.specs.declared.trees.Tree.{Tree, Close, Force', Split'}
-use Rattle.snapshot_histories.specs.Halves.{event_at}
-use Rattle.snapshot_histories.specs.Split.{star}
-use Rattle.snapshot_histories.specs.declared.events.Event.{Event}
-use Rattle.snapshot_histories.specs.declared.events.Event.TheVariants.{Begin, Commit}
+use Rattle.isolation_histories.specs.Halves.{event_at}
+use Rattle.isolation_histories.specs.Split.{star}
+use Rattle.isolation_histories.specs.declared.events.Event.{Event}
+use Rattle.isolation_histories.specs.declared.events.Event.TheVariants.{Begin, Commit}
 use Rattle.log_text.specs.ReadBack.{IsNamed, SaysReply}
 use Rattle.log_text.specs.Refutations.{IsMerged}
 use Rattle.log_text.specs.Replies.{HasKindOfOrder}

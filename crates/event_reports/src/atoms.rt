@@ -3,7 +3,7 @@ ghost use Rattle.std.specs.Prelude.{◌≡◌, ◌<◌, ◌^◌, IfOk};
 ghost use Rattle.serde_json.specs.Find.{as_str};
 ghost use Rattle.serde_json.specs.View.{view};
 ghost use Rattle.event_reports.specs.Halved.{half_at, half_named, half_of, key_at, key_named, key_of, number_at, or_null, reader_of, whole, word_at};
-ghost use Rattle.snapshot_histories.specs.Split.{star};
+ghost use Rattle.isolation_histories.specs.Split.{star};
 
 use serde_json::Value;
 use std::alloc::Global;

@@ -16,9 +16,9 @@ use Rattle.refutation.specs.declared.trees.Leaf.TheVariants.{Cycle, NoWrite, Gon
 use Rattle.refutation.specs.declared.trees.Tree.{Tree, Close, Force', Split'}
 use Rattle.log_text.specs.declared.replies.Reply.{Reply}
 use Rattle.log_text.specs.declared.replies.Reply.TheVariants as reply
-use Rattle.snapshot_histories.specs.Halves.{event_at}
-use Rattle.snapshot_histories.specs.declared.events.Event.{Event}
-use Rattle.snapshot_histories.specs.declared.events.Event.TheVariants.{Begin, Commit}
+use Rattle.isolation_histories.specs.Halves.{event_at}
+use Rattle.isolation_histories.specs.declared.events.Event.{Event}
+use Rattle.isolation_histories.specs.declared.events.Event.TheVariants.{Begin, Commit}
 use Rattle.log_text.specs.Lists.{list_text, word_text, numbers_text}
 use Rattle.log_text.specs.Names.{event_texts, name_texts, key_told}
 use Rattle.log_text.specs.declared.names.Names.{Names}

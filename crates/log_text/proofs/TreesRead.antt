@@ -14,9 +14,9 @@ use Rattle.txn.specs.declared.choices.Side.TheVariants.{First, Second}
 use Rattle.refutation.specs.declared.trees.Leaf.{Leaf}
 use Rattle.refutation.specs.declared.trees.Leaf.TheVariants.{Cycle, NoWrite, Gone}
 use Rattle.refutation.specs.declared.trees.Tree.{Tree, Close, Force', Split'}
-use Rattle.snapshot_histories.specs.Halves.{event_at}
-use Rattle.snapshot_histories.specs.declared.events.Event.{Event}
-use Rattle.snapshot_histories.specs.declared.events.Event.TheVariants.{Begin, Commit}
+use Rattle.isolation_histories.specs.Halves.{event_at}
+use Rattle.isolation_histories.specs.declared.events.Event.{Event}
+use Rattle.isolation_histories.specs.declared.events.Event.TheVariants.{Begin, Commit}
 use Rattle.log_text.specs.declared.tree_items.TreeItem.TheVariants as node
 use Rattle.log_text.specs.Items.{each_of, list_of, with_both}
 use Rattle.log_text.specs.ReadBack.{NamesInChoice, NamesInArc, NamesInStep, NamesInLeaf, NamesInTree}

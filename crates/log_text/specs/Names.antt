@@ -2,10 +2,10 @@
 -- that it stands for, and keys without stars.
 use Rattle.std.specs.Prelude.{ℕ, List, [], ◌∷◌, codes, decimal}
 use Rattle.txn.specs.declared.transactions.TxnId.{TxnId}
-use Rattle.snapshot_histories.specs.Halves.{event_at}
-use Rattle.snapshot_histories.specs.Split.{plain_key}
-use Rattle.snapshot_histories.specs.declared.events.Event.{Event}
-use Rattle.snapshot_histories.specs.declared.events.Event.TheVariants.{Begin, Commit}
+use Rattle.isolation_histories.specs.Halves.{event_at}
+use Rattle.isolation_histories.specs.Split.{plain_key}
+use Rattle.isolation_histories.specs.declared.events.Event.{Event}
+use Rattle.isolation_histories.specs.declared.events.Event.TheVariants.{Begin, Commit}
 use Rattle.log_text.specs.Lists.{word_text}
 use Rattle.log_text.specs.declared.names.Names.{Names}
 use Rattle.log_text.specs.declared.names.Names.TheVariants.{Ids, Events}

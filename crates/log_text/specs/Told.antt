@@ -14,9 +14,9 @@ use Rattle.order_check.specs.declared.remainder.Kind.TheVariants as kind
 use Rattle.refutation.specs.declared.trees.Leaf.{Leaf}
 use Rattle.refutation.specs.declared.trees.Leaf.TheVariants.{Cycle, NoWrite, Gone}
 use Rattle.refutation.specs.declared.trees.Tree.{Tree, Close, Force', Split'}
-use Rattle.snapshot_histories.specs.Halves.{event_at}
-use Rattle.snapshot_histories.specs.declared.events.Event.{Event}
-use Rattle.snapshot_histories.specs.declared.events.Event.TheVariants.{Begin, Commit}
+use Rattle.isolation_histories.specs.Halves.{event_at}
+use Rattle.isolation_histories.specs.declared.events.Event.{Event}
+use Rattle.isolation_histories.specs.declared.events.Event.TheVariants.{Begin, Commit}
 use Rattle.log_text.specs.Names.{key_told}
 use Rattle.log_text.specs.declared.names.Names.{Names}
 use Rattle.log_text.specs.declared.names.Names.TheVariants.{Ids, Events}

@@ -7,8 +7,8 @@ ghost use Rattle.log_text.specs.Told.{event_data, name_data, named_id_data};
 ghost use Rattle.log_text.specs.declared.names.Names.TheVariants.{Events};
 
 use crate::lists::{push_each, push_word};
+use isolation_histories::{Event, event_of, plain_key};
 use serde_json::Value;
-use snapshot_histories::{Event, event_of, plain_key};
 use std::alloc::Global;
 use txn::{NoMemory, TxnId};
 

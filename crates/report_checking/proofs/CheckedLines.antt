@@ -16,7 +16,7 @@ use Rattle.round_state.specs.Opening.{fresh_state}
 use Rattle.round_state.specs.EngineState.{EngineState}
 use Rattle.round_state.specs.Legal.{State}
 use Rattle.round_state.specs.Runs.{Holds}
-use Rattle.snapshot_scripts.specs.Legal.{HoldsSplit}
+use Rattle.isolation_scripts.specs.Legal.{HoldsSplit}
 use Rattle.cobra.specs.Outputs.{Asks, IsTold}
 use Rattle.cobra.specs.Scripts.{AreVersionSessions, IsIsolatedLimit, IsVersionLimit}
 use Rattle.report_checking.specs.Checking.{TakesMemory, Checks, start, right, unchecked}

@@ -23,8 +23,8 @@ use Rattle.round_state.specs.declared.steps.Claim.TheVariants as claims
 use Rattle.round_state.specs.declared.steps.Step.TheVariants as step
 use Rattle.round_state.specs.declared.steps.StepReply.TheVariants as reply
 use Rattle.gone_orders.specs.Behind.{RemainsBehind}
-use Rattle.snapshot_histories.specs.Split.{split_history}
-use Rattle.snapshot_scripts.specs.Legal.{HasReceived}
+use Rattle.isolation_histories.specs.Split.{split_history}
+use Rattle.isolation_scripts.specs.Legal.{HasReceived}
 use Rattle.whole_orders.specs.Left.{IsLeftOf, WasFoundIn}
 use Rattle.engine_pasts.specs.Holding.{EventsStandBehind, HoldsBehind, StandsBehind}
 use Rattle.engine_pasts.specs.Laws.{ReportedEventsStandBehind, ReportedOrdersStandBehind, StepsHoldBehind}

@@ -20,10 +20,10 @@ use Rattle.log_text.specs.Names.{event_texts, name_texts, key_told}
 use Rattle.log_text.specs.Replies.{id_text, event_text, kind_name, report_parts, text_of}
 use Rattle.log_text.specs.declared.names.Names.{Names}
 use Rattle.log_text.specs.declared.names.Names.TheVariants.{Ids, Events}
-use Rattle.snapshot_histories.specs.Halves.{event_at}
-use Rattle.snapshot_histories.specs.declared.events.Event.{Event}
-use Rattle.snapshot_histories.specs.declared.events.Event.TheVariants.{Begin, Commit}
-use Rattle.snapshot_scripts.specs.Isolated.{halved}
+use Rattle.isolation_histories.specs.Halves.{event_at}
+use Rattle.isolation_histories.specs.declared.events.Event.{Event}
+use Rattle.isolation_histories.specs.declared.events.Event.TheVariants.{Begin, Commit}
+use Rattle.isolation_scripts.specs.Isolated.{halved}
 use Rattle.log_text.specs.Trees.{choice_text, arc_text, cycle_text, side_number, step_text, split_text, reader_text, leaf_text, items_of, tree_text}
 use Rattle.log_text.specs.declared.commands.Command.{Command}
 use Rattle.round_state.specs.declared.reports.Certificate.{Certificate}

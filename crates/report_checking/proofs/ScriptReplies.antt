@@ -28,9 +28,9 @@ use Rattle.round_state.specs.declared.reports.Certificate.TheVariants.{Order, Re
 use Rattle.round_state.specs.declared.reports.Report.{Report}
 use Rattle.round_state.specs.declared.steps.Step.TheVariants as step
 use Rattle.round_state.specs.declared.steps.StepReply.TheVariants as reply
-use Rattle.snapshot_histories.specs.Logged.{split_logged}
-use Rattle.snapshot_scripts.specs.Isolated.{isolated_of}
-use Rattle.snapshot_scripts.specs.Splitting.{CanBeAsked, IsAskedFault, split_command, split_wanted}
+use Rattle.isolation_histories.specs.Logged.{split_logged}
+use Rattle.isolation_scripts.specs.Isolated.{isolated_of}
+use Rattle.isolation_scripts.specs.Splitting.{CanBeAsked, IsAskedFault, split_command, split_wanted}
 use Rattle.cobra.specs.Outputs.{Asks, IsTold}
 use Rattle.cobra.specs.Saving.{saved_told}
 use Rattle.cobra.specs.Scripts.{AreVersionSessions, IsBeginningRefusal, IsIsolatedLimit, IsIsolatedRefusal, IsLimitWithin, IsVersionLimit, IsVersionRefusal, state_told}

@@ -12,9 +12,9 @@ use Rattle.txn.specs.declared.refusals.Refusal.TheVariants.{BadSession, BadTxn, 
 use Rattle.txn.specs.Transactions.{IsWellFormed, id_in}
 use Rattle.log_text.specs.declared.commands.Command.{Command}
 use Rattle.log_text.specs.declared.commands.Command.TheVariants as command
-use Rattle.snapshot_histories.specs.Offered.{HasOfferedLengths, CanBeOffered, OfferedTxnFault, FirstOfferedFault, OfferedFault}
-use Rattle.snapshot_histories.specs.Splittable.{HasLowNumbers}
-use Rattle.snapshot_scripts.specs.Splitting.{CanBeAsked, IsAskedFault}
+use Rattle.isolation_histories.specs.Offered.{HasOfferedLengths, CanBeOffered, OfferedTxnFault, FirstOfferedFault, OfferedFault}
+use Rattle.isolation_histories.specs.Splittable.{HasLowNumbers}
+use Rattle.isolation_scripts.specs.Splitting.{CanBeAsked, IsAskedFault}
 
 no_txn_fault : (most : ℕ) (id : TxnId) (txn : Txn) (r : Refusal) → IsWellFormed most id txn → HasLowNumbers txn → OfferedTxnFault most id txn r → ⊥
 no_txn_fault most id txn BadTxn well low is = is (well.lists, low)

@@ -30,13 +30,13 @@ use Rattle.round_state.specs.declared.steps.Step.{Step}
 use Rattle.round_state.specs.declared.steps.Step.TheVariants as step
 use Rattle.round_state.specs.declared.steps.StepReply.{StepReply}
 use Rattle.round_state.specs.declared.steps.StepReply.TheVariants as reply
-use Rattle.snapshot_histories.specs.Laws.{SplitDoublesCounts, SplitKeepsVerdict}
-use Rattle.snapshot_histories.specs.Logged.{split_logged}
-use Rattle.snapshot_histories.specs.Split.{split_history, HistoryCanBeSplit}
-use Rattle.snapshot_scripts.specs.Isolated.{halved, isolated_of}
-use Rattle.snapshot_scripts.specs.Legal.{IsIsolationOf, TellsIsolationOf, IsTrueIsolation, LegalIsolation, split_state, HoldsSplit, FreshEnginesAreSplit, SplitStepsAreLegal}
-use Rattle.snapshot_scripts.specs.Splitting.{CanBeAsked, IsAskedFault, split_command}
-use Rattle.snapshot_scripts.specs.Steps.{split_step, CanBeMade}
+use Rattle.isolation_histories.specs.Laws.{SplitDoublesCounts, SplitKeepsVerdict}
+use Rattle.isolation_histories.specs.Logged.{split_logged}
+use Rattle.isolation_histories.specs.Split.{split_history, HistoryCanBeSplit}
+use Rattle.isolation_scripts.specs.Isolated.{halved, isolated_of}
+use Rattle.isolation_scripts.specs.Legal.{IsIsolationOf, TellsIsolationOf, IsTrueIsolation, LegalIsolation, split_state, HoldsSplit, FreshEnginesAreSplit, SplitStepsAreLegal}
+use Rattle.isolation_scripts.specs.Splitting.{CanBeAsked, IsAskedFault, split_command}
+use Rattle.isolation_scripts.specs.Steps.{split_step, CanBeMade}
 use Rattle.cobra.specs.Scripts.{IsBadLine, IsTakenIn}
 use Rattle.cobra.specs.StepReplies.{reply_of, report_of}
 use Rattle.report_checking.specs.Isolation.{IsOwedIsolation, IsIsolatedStep, EndsIsolated, IsIsolatedRound, EndsWhere, OwesSplit, OwesAsked, OwesIsolated}

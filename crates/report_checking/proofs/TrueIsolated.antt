@@ -25,13 +25,13 @@ use Rattle.round_state.specs.declared.steps.Step.{Step}
 use Rattle.round_state.specs.declared.steps.Step.TheVariants as step
 use Rattle.round_state.specs.declared.steps.StepReply.{StepReply}
 use Rattle.round_state.specs.declared.steps.StepReply.TheVariants as reply
-use Rattle.snapshot_histories.specs.Halves.{commit_half, event_at}
-use Rattle.snapshot_histories.specs.Split.{HistoryCanBeSplit, split_history}
-use Rattle.snapshot_scripts.specs.Isolated.{halved, isolated_of}
-use Rattle.snapshot_scripts.specs.Legal.{IsIsolationOf, LegalIsolation, SplitStepsFollow, split_state}
-use Rattle.snapshot_scripts.specs.Splitting.{CanBeAsked, split_wanted}
-use Rattle.snapshot_scripts.specs.Steps.{CanBeMade, split_step}
-use Rattle.snapshot_scripts.specs.Telling.{CommittedAreOfCommits, HalvedCountsAreWhole}
+use Rattle.isolation_histories.specs.Halves.{commit_half, event_at}
+use Rattle.isolation_histories.specs.Split.{HistoryCanBeSplit, split_history}
+use Rattle.isolation_scripts.specs.Isolated.{halved, isolated_of}
+use Rattle.isolation_scripts.specs.Legal.{IsIsolationOf, LegalIsolation, SplitStepsFollow, split_state}
+use Rattle.isolation_scripts.specs.Splitting.{CanBeAsked, split_wanted}
+use Rattle.isolation_scripts.specs.Steps.{CanBeMade, split_step}
+use Rattle.isolation_scripts.specs.Telling.{CommittedAreOfCommits, HalvedCountsAreWhole}
 use Rattle.engine_pasts.specs.Holding.{EventsStandBehind, HoldsBehind, MovesOn}
 use Rattle.engine_pasts.specs.Laws.{ReportedEventsStandBehind, StepsHoldBehind}
 use Rattle.cobra.specs.Saving.{fragment_told, saved_told}

@@ -11,7 +11,7 @@ use Rattle.log_text.specs.declared.versions.Opening.TheVariants.{Ordered, Isolat
 use Rattle.log_text.specs.Versions.{most_sessions}
 use Rattle.round_state.specs.Legal.{State}
 use Rattle.round_state.specs.Opening.{fresh}
-use Rattle.snapshot_scripts.specs.Legal.{NothingIsSplit}
+use Rattle.isolation_scripts.specs.Legal.{NothingIsSplit}
 use Rattle.engine_pasts.specs.Holding.{HoldsBehind}
 use Rattle.engine_pasts.specs.Laws.{FreshEnginesHoldBehind, HalvesAreToldBehind, ReportedOrdersStandBehind}
 use Rattle.cobra.specs.TrueReports.{TellsTrueOf}

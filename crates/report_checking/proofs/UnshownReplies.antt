@@ -18,7 +18,7 @@ use Rattle.polygraph.specs.declared.solving.Answer.{Answer}
 use Rattle.round_state.specs.EngineState.{EngineState}
 use Rattle.round_state.specs.Solving.{IsWrong}
 use Rattle.round_state.specs.declared.steps.Step.{Step}
-use Rattle.snapshot_scripts.specs.Splitting.{split_command}
+use Rattle.isolation_scripts.specs.Splitting.{split_command}
 use Rattle.report_checking.specs.Isolation.{IsShownBy, names_of}
 use Rattle.report_checking.specs.OwedLines.{ScriptState}
 use Rattle.report_checking.specs.Reading.{HoldsScript, IsToldOf, IsTakenAs, IsUnshownIn, Unshows, answer_of, isolated_owed, unshown_of}

@@ -22,10 +22,10 @@ use Rattle.round_state.specs.declared.steps.Step.{Step}
 use Rattle.round_state.specs.declared.steps.Step.TheVariants as step
 use Rattle.round_state.specs.declared.steps.StepReply.{StepReply}
 use Rattle.round_state.specs.declared.steps.StepReply.TheVariants as reply
-use Rattle.snapshot_histories.specs.Logged.{split_logged}
-use Rattle.snapshot_scripts.specs.Isolated.{isolated_of}
-use Rattle.snapshot_scripts.specs.Legal.{TellsIsolationOf, LegalIsolation}
-use Rattle.snapshot_scripts.specs.Splitting.{CanBeAsked, IsAskedFault, split_wanted}
+use Rattle.isolation_histories.specs.Logged.{split_logged}
+use Rattle.isolation_scripts.specs.Isolated.{isolated_of}
+use Rattle.isolation_scripts.specs.Legal.{TellsIsolationOf, LegalIsolation}
+use Rattle.isolation_scripts.specs.Splitting.{CanBeAsked, IsAskedFault, split_wanted}
 use Rattle.cobra.specs.Saving.{saved_told}
 use Rattle.cobra.specs.Scripts.{IsBadLine, IsTakenIn, state_told}
 use Rattle.cobra.specs.StepReplies.{reply_of, report_of}

@@ -16,7 +16,7 @@ use Rattle.round_state.specs.declared.reports.Certificate.TheVariants.{Order, Re
 use Rattle.round_state.specs.declared.reports.Report.{Report}
 use Rattle.round_state.specs.declared.steps.Step.TheVariants as step
 use Rattle.round_state.specs.declared.steps.StepReply.TheVariants as reply
-use Rattle.snapshot_scripts.specs.Legal.{LegalIsolation}
+use Rattle.isolation_scripts.specs.Legal.{LegalIsolation}
 use Rattle.cobra.specs.Outputs.{Asks}
 use Rattle.cobra.specs.StepReplies.{claim_of, report_of}
 use Rattle.report_checking.specs.Checking.{Checks, IsRightReply, IsUnchecked}

@@ -10,7 +10,7 @@ use Rattle.log_text.specs.declared.versions.Opening.{Opening}
 use Rattle.log_text.specs.declared.versions.Opening.TheVariants.{Ordered, Isolated}
 use Rattle.log_text.specs.Replies.{text_of}
 use Rattle.round_state.specs.Legal.{State}
-use Rattle.snapshot_histories.specs.Split.{HistoryCanBeSplit}
+use Rattle.isolation_histories.specs.Split.{HistoryCanBeSplit}
 use Rattle.engine_pasts.specs.Holding.{HoldsBehind}
 use Rattle.engine_pasts.specs.Laws.{ToldBehind}
 use Rattle.cobra.specs.Outputs.{Asks}

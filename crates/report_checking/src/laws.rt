@@ -5,7 +5,7 @@ use engine_pasts::{
     fresh_engines_hold_behind, halves_are_told_behind, reported_events_stand_behind,
     reported_orders_stand_behind, steps_hold_behind,
 };
-use snapshot_scripts::{
+use isolation_scripts::{
     committed_are_of_commits, halved_counts_are_whole, nothing_is_split, split_steps_follow,
 };
 

@@ -13,10 +13,10 @@ ghost use Rattle.report_checking.specs.Unshown.{ShowsWrongOf, EndsWrong};
 use crate::findings::Owed;
 use crate::owed::{owed_finish, owed_open, owed_step};
 use crate::replayed::Replayed;
+use isolation_histories::{split_doubles_counts, split_keeps_verdict};
+use isolation_scripts::{isolated_of, split_command, split_steps_are_legal};
 use log_text::{Command, Names, Opening, Reply, Version};
 use round_state::Step;
-use snapshot_histories::{split_doubles_counts, split_keeps_verdict};
-use snapshot_scripts::{isolated_of, split_command, split_steps_are_legal};
 use std::alloc::Global;
 use txn::{NoMemory, Refusal};
 

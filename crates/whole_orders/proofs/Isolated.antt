@@ -4,10 +4,10 @@ use Rattle.std.proofs.lemmas.List.{map-append}
 use Rattle.txn.specs.declared.transactions.TxnId.{TxnId}
 use Rattle.txn.specs.History.{History}
 use Rattle.order_check.specs.Laws.{SameVerdictAsStoodFor}
-use Rattle.snapshot_histories.specs.Halves.{event_at}
-use Rattle.snapshot_histories.specs.Laws.{OrdersIsolate, SplitKeepsVerdict}
-use Rattle.snapshot_histories.specs.Snapshot.{IsSnapshotOrder}
-use Rattle.snapshot_histories.specs.Split.{split_history}
+use Rattle.isolation_histories.specs.Halves.{event_at}
+use Rattle.isolation_histories.specs.Laws.{OrdersIsolate, SplitKeepsVerdict}
+use Rattle.isolation_histories.specs.Snapshot.{IsSnapshotOrder}
+use Rattle.isolation_histories.specs.Split.{split_history}
 use Rattle.whole_orders.specs.Isolated.{EndsSnapshotOrder}
 use Rattle.whole_orders.specs.Laws.{SplitPartsTell}
 use Rattle.whole_orders.specs.Left.{EndsOrder}

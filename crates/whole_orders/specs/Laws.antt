@@ -21,9 +21,9 @@ use Rattle.round_state.specs.declared.reports.Report.{Report}
 use Rattle.round_state.specs.declared.steps.Step.{Step}
 use Rattle.round_state.specs.declared.steps.StepReply.{StepReply}
 use Rattle.round_state.specs.declared.steps.StepReply.TheVariants as reply
-use Rattle.snapshot_histories.specs.Halves.{event_at}
-use Rattle.snapshot_histories.specs.Snapshot.{IsSnapshotVerdict}
-use Rattle.snapshot_histories.specs.Split.{split_history, HistoryCanBeSplit}
+use Rattle.isolation_histories.specs.Halves.{event_at}
+use Rattle.isolation_histories.specs.Snapshot.{IsSnapshotVerdict}
+use Rattle.isolation_histories.specs.Split.{split_history, HistoryCanBeSplit}
 use Rattle.whole_orders.specs.Isolated.{EndsSnapshotOrder}
 use Rattle.whole_orders.specs.Left.{EndsOrderIfAny, HoldsLeft, IsLeftBehind, IsLeftOf}
 

@@ -1,8 +1,8 @@
 //! Laws of engines and whole histories. The functions do nothing.
 ghost use Rattle.whole_orders.specs.Laws.{BarePartsAreLeft, BoundsLeaveLeft, CutsLeaveTheRestLeft, FreshEnginesGoOn, LeftPartsGoOn, ReportedOrdersEndOrders, SplitPartsTell, StepsGoOn};
 
+use isolation_histories::{orders_isolate, split_keeps_verdict};
 use order_check::{close_keeps_front, fragment_keeps_front, front_of_itself, verdict_as_stood_for};
-use snapshot_histories::{orders_isolate, split_keeps_verdict};
 
 /// Parts of which nothing is gone are what is left of what remains.
 pub fn bare_parts_are_left()

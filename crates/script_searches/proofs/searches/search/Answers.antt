@@ -1,5 +1,0 @@
-use Rattle.std.proofs.Common.{refl}
-use Rattle.script_searches.proofs.searches.search.Goals as goal
-
-pub returns-in-Plain : goal.returns-in-Plain
-returns-in-Plain g c = rw c.in-Plain.is (c.search.ensures.lawful, (c.args.problem.now, c.open_choices.ensures.problem, refl, c.search.ensures.picked))

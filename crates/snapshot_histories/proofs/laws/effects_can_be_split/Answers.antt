@@ -1,5 +1,0 @@
-use Rattle.snapshot_histories.proofs.Effects.{effects_splittable}
-use Rattle.snapshot_histories.proofs.laws.effects_can_be_split.Goals as goal
-
-pub returns : goal.returns
-returns c = effects_splittable

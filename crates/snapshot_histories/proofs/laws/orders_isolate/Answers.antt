@@ -1,5 +1,0 @@
-use Rattle.snapshot_histories.proofs.Isolation.{events_isolate}
-use Rattle.snapshot_histories.proofs.laws.orders_isolate.Goals as goal
-
-pub returns : goal.returns
-returns c = events_isolate

@@ -1,5 +1,0 @@
-use Rattle.snapshot_histories.proofs.Arrivals.{split_with_arrival}
-use Rattle.snapshot_histories.proofs.laws.split_goes_with_arrivals.Goals as goal
-
-pub returns : goal.returns
-returns c = split_with_arrival

@@ -1,5 +1,0 @@
-use Rattle.snapshot_histories.proofs.WellFormedSplit.{split_formed}
-use Rattle.snapshot_histories.proofs.laws.split_is_well_formed.Goals as goal
-
-pub returns : goal.returns
-returns c = split_formed

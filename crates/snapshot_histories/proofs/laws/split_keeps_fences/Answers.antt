@@ -1,5 +1,0 @@
-use Rattle.snapshot_histories.proofs.WellFormedSplit.{fences_split}
-use Rattle.snapshot_histories.proofs.laws.split_keeps_fences.Goals as goal
-
-pub returns : goal.returns
-returns c = fences_split

@@ -1,5 +1,0 @@
-use Rattle.snapshot_histories.proofs.Isolation.{kept_as_explained}
-use Rattle.snapshot_histories.proofs.laws.split_keeps_isolation.Goals as goal
-
-pub returns : goal.returns
-returns c = kept_as_explained

@@ -1,5 +1,0 @@
-use Rattle.snapshot_histories.proofs.Pending.{pending_as_split}
-use Rattle.snapshot_histories.proofs.laws.split_keeps_pending.Goals as goal
-
-pub returns : goal.returns
-returns c = pending_as_split

@@ -1,5 +1,0 @@
-use Rattle.snapshot_histories.proofs.Pending.{verdict_as_split}
-use Rattle.snapshot_histories.proofs.laws.split_keeps_verdict.Goals as goal
-
-pub returns : goal.returns
-returns c = verdict_as_split

@@ -1,6 +1,0 @@
-use Rattle.std.proofs.Common.{All, take}
-use Rattle.snapshot_histories.specs.Splittable.{HasLowNumbers}
-use Rattle.snapshot_histories.proofs.splittable.have_low_numbers.Given as goal
-
-abbrev pub invariant-loop-txn : goal.invariant-loop-txn
-invariant-loop-txn l = All HasLowNumbers (take l.txn-index l.txns)

@@ -1,6 +1,0 @@
-use Rattle.std.proofs.Common.{◌≡◌, map, take}
-use Rattle.snapshot_histories.specs.Split.{commit_read_of}
-use Rattle.snapshot_histories.proofs.splitting.commit_reads.Given as goal
-
-abbrev pub invariant-loop-key : goal.invariant-loop-key
-invariant-loop-key l = l.all.items ≡ map (commit_read_of l.fn.id) (take l.key-index l.writes)

@@ -1,5 +1,0 @@
-use Rattle.snapshot_scripts.proofs.Told.{halving}
-use Rattle.snapshot_scripts.proofs.laws.halved_counts_are_whole.Goals as goal
-
-pub returns : goal.returns
-returns c = halving

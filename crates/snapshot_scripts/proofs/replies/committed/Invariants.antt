@@ -1,6 +1,0 @@
-use Rattle.std.proofs.Common.{◌≡◌, take}
-use Rattle.snapshot_scripts.specs.Isolated.{committed}
-use Rattle.snapshot_scripts.proofs.replies.committed.Given as goal
-
-abbrev pub invariant-loop-half : goal.invariant-loop-half
-invariant-loop-half l = l.whole.items ≡ committed (take l.half-index l.halves)
