@@ -28,6 +28,8 @@ type Arguments struct {
 	// Cut says that a LIMIT cut rows off, and Last is the key of the table's row in the last one of the result.
 	Cut  bool
 	Last record.Key
+	// Labelled says that each of the form's Labels was sent with its column's type.
+	Labelled bool
 	// Escapes says that standard_conforming_strings is off: a backslash in a constant has another meaning.
 	Escapes bool
 	// Temporary says that the connection has temporary objects: a type among them comes before the server's own.
@@ -205,6 +207,7 @@ func (b *binder) values(of operand) ([]value, error) {
 			return nil, err
 		}
 	}
+	b.labelled(of, all, literals[0].kind)
 	return all, nil
 }
 

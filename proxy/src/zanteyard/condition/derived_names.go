@@ -182,6 +182,15 @@ func (n *names) sorting(body tree) []any {
 	return all
 }
 
+// written adds to a column's name over the statement's tables the one that the statement has.
+func written(its any, as tree) any {
+	kind, column := open(its)
+	if kind != "ColumnRef" {
+		return its
+	}
+	return map[string]any{"ColumnRef": map[string]any{"fields": column["fields"], asWritten: as["fields"]}}
+}
+
 func (n *names) rewrite(value any) any {
 	switch v := value.(type) {
 	case map[string]any:
@@ -189,7 +198,7 @@ func (n *names) rewrite(value any) any {
 		for name, below := range v {
 			switch body := asTree(below); {
 			case name == "ColumnRef":
-				return n.reference(body)
+				return written(n.reference(body), body)
 			case name == "SubLink":
 				return unclear()
 			}

@@ -247,12 +247,14 @@ func (r *reader) sides(left, right any) (column *catalog.Column, its operand, sw
 		if column, err = r.column(right); err != nil {
 			return nil, its, false, err
 		}
-		right, swapped = left, true
+		left, right, swapped = right, left, true
 	}
 	if err != nil {
 		return nil, its, swapped, err
 	}
-	its, err = r.operand(right)
+	if its, err = r.operand(right); err == nil {
+		its = r.label(column, left, its)
+	}
 	return column, its, swapped, err
 }
 
@@ -300,7 +302,9 @@ func (r *reader) list(body tree, left, right any) (expression, error) {
 		if err != nil {
 			return nil, err
 		}
-		one.listed = one.cast == 0
+		if one.listed = one.cast == 0; len(list.list("items")) == 1 { // several get one type, with the column
+			one = r.label(column, left, one)
+		}
 		its.values = append(its.values, one)
 	}
 	return its, r.suits(column, name)
@@ -348,6 +352,7 @@ func (r *reader) between(kind string, left, right any) (expression, error) {
 	if err != nil {
 		return nil, err
 	}
+	first, second = r.label(column, left, first), r.label(column, left, second)
 	for _, name := range []string{"<", "<=", ">", ">="} {
 		if err := r.suits(column, symbol{name: name}); err != nil {
 			return nil, err

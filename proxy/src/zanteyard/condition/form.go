@@ -13,6 +13,8 @@ type Form struct {
 	// Constants are the places of the constants and parameters in the text that the parse tree was made from, in bytes:
 	// where the token begins, which is a minus for a negative number.
 	Constants []int
+	// Labels are those of them that are followed only if the statement is sent with their columns' types (Arguments.Labelled).
+	Labels []Label
 
 	// Given says that the condition is asked beside the other tables' rows of each row of the result, and Outer names the
 	// columns of these on which it depends.

@@ -106,6 +106,10 @@ func (b *binder) keyPart(of compared) (string, bool) {
 	}
 	typ := its.typ
 	switch {
+	case familyOfColumn(of.column) == labelled && typ != of.column.Base:
+		return "", false // a cast may make it a text
+	case familyOfColumn(of.column) == labelled:
+		typ = of.column.Type
 	case typ == 0 && its.parameter > 0 && b.infer(its.parameter, of.column.Type) != nil:
 		return "", false
 	case typ == 0:

@@ -17,7 +17,8 @@ type operand struct {
 	listed    bool   // it is one of a list, and stands for those that were left out of the text, too
 	ofArray   bool   // it is an element of ARRAY[..]
 	made      []operand
-	qualified bool // what makes the range is named with the server's own schema
+	qualified bool   // what makes the range is named with the server's own schema
+	label     uint32 // the enumeration whose label it is, if it has no type of its own; 0 for others
 }
 
 const (

@@ -34,13 +34,13 @@ func (r *reader) either(list []any) (expression, error) {
 
 // places are how much a form has of what a statement's expressions depend on.
 type places struct {
-	constants, literals, outer int
-	elsewhere                  map[int]int
-	partly                     error
+	constants, literals, outer, labels int
+	elsewhere                          map[int]int
+	partly                             error
 }
 
 func (f *Form) places() places {
-	its := places{len(f.Constants), len(f.literals), len(f.Outer), make(map[int]int, len(f.elsewhere)), f.Partly}
+	its := places{len(f.Constants), len(f.literals), len(f.Outer), len(f.Labels), make(map[int]int, len(f.elsewhere)), f.Partly}
 	for number, count := range f.elsewhere {
 		its.elsewhere[number] = count
 	}
@@ -50,5 +50,6 @@ func (f *Form) places() places {
 // restore undoes what was read since then.
 func (f *Form) restore(to places) {
 	f.Constants, f.literals, f.Outer = f.Constants[:to.constants], f.literals[:to.literals], f.Outer[:to.outer]
+	f.Labels = f.Labels[:to.labels]
 	f.elsewhere, f.Partly = to.elsewhere, to.partly
 }

@@ -217,6 +217,12 @@ func (c *Cache) locate(state *cached, p *Plan, text string, list []token) (*Plan
 			break
 		}
 	}
+	for _, at := range p.labels {
+		if text[list[at].start] != '\'' {
+			p = p.misplaced
+			break
+		}
+	}
 	if p.Copied && areLong(p.insertions[0].in(list, 0).copied) {
 		p = p.misplaced
 	}

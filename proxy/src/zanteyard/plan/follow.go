@@ -352,6 +352,7 @@ func (p *Plan) mayCutAny() bool { return !p.follow.sorted && !p.Lists() }
 
 // Asks returns what a statement asks its only table for, by the constants of its text and Bind's parameters.
 func (p *Plan) Asks(text string, tokens Tokens, with condition.Arguments) Question {
+	with.Labelled = len(p.labels) > 0
 	return p.follow.sides[0].asks(text, tokens, 0, with)
 }
 
@@ -367,6 +368,7 @@ type Found struct {
 // any, or has some though it is of no table. What it asks a table for by its whole key isn't returned: no other row can
 // satisfy it. before finds a row by its key among those that earlier statements have read.
 func (p *Plan) AsksJoined(text string, tokens Tokens, with condition.Arguments, found []Found, before Before, hasRows bool) []Question {
+	with.Labelled = len(p.labels) > 0
 	with.Beside, with.HasRows = map[string][]record.Key{}, hasRows && (p.Kind == Write || len(p.Sources) == 0)
 	for i := range found {
 		if with.Beside[p.Sources[i].Name] = found[i].Keys; len(p.Sources[i].More) > 0 {

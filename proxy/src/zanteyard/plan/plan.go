@@ -187,7 +187,9 @@ type Plan struct {
 	custom     *Plan // the same for texts in which set_config sets nothing but settings that names don't depend on
 	configs    []int // the tokens of their names
 	apart      bool  // its text's lists mustn't be collapsed: another key has its plan
+	labels     []int // the tokens of constants that get the type of their columns
 	sample     string
+	inserted   []Inserted    // into it
 	looksUp    bool          // some of Sources are looked up by their keys
 	plain      span          // the part of it that is the statement as it is, if Copied
 	merged     []int         // then: how many of Sources each part has that is asked for once more
@@ -219,6 +221,7 @@ type insertion struct {
 	text   string
 	token  int
 	behind bool
+	alone  bool // only if the token stands for one constant, and not for several of a list
 	copies []copied
 }
 

@@ -52,6 +52,7 @@ func (m *maker) query(stmt statement, name string, body node, start int) *Plan {
 			}
 		}
 		m.asksBy(p, body)
+		m.typesLabels(p)
 		if p.Kind == Select && !m.readsTables(body) {
 			p.ofNoTable()
 		}
@@ -84,7 +85,7 @@ func (m *maker) finish(p *Plan, stmt statement, field string, start int) {
 		p.positions = nil
 		return
 	}
-	sort.Slice(p.insertions, func(i, j int) bool { return p.insertions[i].token < p.insertions[j].token })
+	sort.SliceStable(p.insertions, func(i, j int) bool { return p.insertions[i].token < p.insertions[j].token })
 	reason := ""
 	switch {
 	case m.mentions(alias):
@@ -101,6 +102,9 @@ func (m *maker) finish(p *Plan, stmt statement, field string, start int) {
 	}
 	if len(p.positions) > 0 {
 		p.misplaced = p.without("ORDER BY or GROUP BY may refer to a column by its position")
+	}
+	if len(p.labels) > 0 && p.misplaced == nil {
+		p.misplaced = p.without("a label of an enumeration in an unknown form")
 	}
 	p.sample = m.sample(p, stmt, start)
 	if p.Counts || p.Looks || p.Copied {
@@ -122,7 +126,7 @@ func (m *maker) sample(p *Plan, stmt statement, start int) string {
 	} else {
 		text, inserted = insert(m.text[first:last], p.insertions, func(one insertion) places { return one.in(m.tokens, first) })
 	}
-	if p.Copied {
+	if p.inserted = inserted; p.Copied {
 		p.plain = span{int32(inserted[0].At + inserted[0].Length), int32(inserted[1].At)}
 	}
 	return text
@@ -137,6 +141,9 @@ type places struct {
 // in returns an insertion's places in a text that begins at a byte of the one that has the tokens.
 func (one insertion) in(tokens []token, begin int) places {
 	its := places{at: int(tokens[one.token].start) - begin}
+	if one.alone && tokens[one.token].last != tokens[one.token].end {
+		return places{at: nowhere}
+	}
 	if one.behind {
 		its.at = int(tokens[one.token].last) - begin
 	}
@@ -187,12 +194,15 @@ func (m *maker) mentions(name string) bool {
 // sound reports whether the rewritten text means the same as the text, except for the hidden columns after the others:
 // the parser decides.
 func (m *maker) sound(p *Plan, stmt statement, field string) bool {
-	text, _ := insert(m.joined, p.insertions, m.joinedPlaces(0))
+	text, inserted := insert(m.joined, p.insertions, m.joinedPlaces(0))
 	trees, err := parse(text)
 	if err != nil || len(trees) != 1 {
 		return false
 	}
 	rewritten := trees[0].node("stmt")
+	if !p.withoutTypes(rewritten, inserted) {
+		return false
+	}
 	if p.Copied {
 		return m.copyOf(stmt.tree, rewritten)
 	}

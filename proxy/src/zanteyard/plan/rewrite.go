@@ -60,6 +60,10 @@ func insert(text string, all []insertion, find func(one insertion) places) (stri
 	inserted, last := make([]Inserted, len(all)), 0
 	for i, one := range all {
 		its := find(one)
+		if its.at == nowhere {
+			inserted[i].At = out.Len()
+			continue
+		}
 		out.WriteString(text[last:its.at])
 		begin := out.Len()
 		out.WriteString(one.text)
@@ -116,9 +120,19 @@ func (p *Plan) Trial() Trial {
 			its.Plain = p.sample[p.plain.from:p.plain.to]
 			return its
 		}
-		for _, one := range p.insertions { // each has names that are nowhere else
-			its.Plain = strings.Replace(its.Plain, one.text, "", 1)
-		}
+		its.Plain = cutOut(p.sample, p.inserted)
 	}
 	return its
+}
+
+// cutOut returns a text without what was inserted into it.
+func cutOut(text string, inserted []Inserted) string {
+	var out strings.Builder
+	last := 0
+	for _, its := range inserted {
+		out.WriteString(text[last:its.At])
+		last = its.At + its.Length
+	}
+	out.WriteString(text[last:])
+	return out.String()
 }
