@@ -27,10 +27,23 @@ func someCondition(r *rand.Rand) phantomCondition {
 	return conditionOf(r.Intn(phantomKinds), r.Intn(3), r.Intn(4))
 }
 
+// moods are the labels of an enumeration for the values of a.
+var moods = []string{"none", "one", "two"}
+
+// moodOf is the label for a value of a, as SQL has it.
+func moodOf(a string) string {
+	if n, err := strconv.Atoi(a); err == nil {
+		return "'" + moods[n] + "'"
+	}
+	return "NULL"
+}
+
 func conditionOf(kind, c, d int) phantomCondition {
 	switch kind {
-	case 0, 1:
+	case 0:
 		return phantomCondition{fmt.Sprintf("a = %d", c), func(v phantomRow) bool { return v.a == c }}
+	case 1:
+		return phantomCondition{fmt.Sprintf("m = '%s'", moods[c]), func(v phantomRow) bool { return v.a == c }}
 	case 2:
 		return phantomCondition{fmt.Sprintf("b >= %d", d), func(v phantomRow) bool { return v.b >= d }}
 	case 3:
@@ -286,9 +299,9 @@ func (c *phantomClient) write(t *phantomTxn, own map[int]bool) error {
 	itself := &phantomCondition{fmt.Sprintf("id = %d", key), func(v phantomRow) bool { return v.id == key }}
 	switch c.r.Intn(9) {
 	case 0, 1:
-		text = fmt.Sprintf("INSERT INTO %s VALUES (%d, %s, %d, '%s') ON CONFLICT DO NOTHING", c.table, key, a, b, t.tag)
+		text = fmt.Sprintf("INSERT INTO %s VALUES (%d, %s, %d, '%s', %s) ON CONFLICT DO NOTHING", c.table, key, a, b, t.tag, moodOf(a))
 	case 2:
-		text, by = fmt.Sprintf("UPDATE "+c.table+" SET a = %s, tag = '%s' WHERE id = %d", a, t.tag, key), itself
+		text, by = fmt.Sprintf("UPDATE "+c.table+" SET a = %s, tag = '%s', m = %s WHERE id = %d", a, t.tag, moodOf(a), key), itself
 	case 3:
 		text, by = fmt.Sprintf("UPDATE "+c.table+" SET b = %d, tag = '%s' WHERE id = %d", b, t.tag, key), itself
 	case 4:

@@ -55,7 +55,7 @@ func (c *phantomClient) none(t *phantomTxn, own map[int]bool) error {
 func (c *phantomClient) unless(by phantomCondition, key int, a string, b int, tag string) []string {
 	none := fmt.Sprintf("NOT EXISTS (SELECT 1 FROM %s AS o WHERE %s)", c.table, by.text)
 	return []string{
-		fmt.Sprintf("INSERT INTO %s SELECT %d, %s, %d, '%s' WHERE %s ON CONFLICT DO NOTHING", c.table, key, a, b, tag, none),
+		fmt.Sprintf("INSERT INTO %s SELECT %d, %s, %d, '%s', %s::mood WHERE %s ON CONFLICT DO NOTHING", c.table, key, a, b, tag, moodOf(a), none),
 		fmt.Sprintf("UPDATE %s SET b = %d, tag = '%s' WHERE id = %d AND %s", c.table, b, tag, key, none),
 		fmt.Sprintf("DELETE FROM %s WHERE id = %d AND %s", c.table, key, none),
 	}

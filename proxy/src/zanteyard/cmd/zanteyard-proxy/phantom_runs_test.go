@@ -5,6 +5,7 @@ import (
 	"encoding/json"
 	"fmt"
 	"math/rand"
+	"strconv"
 	"strings"
 	"sync"
 	"testing"
@@ -215,7 +216,8 @@ func (one *phantomHistory) begin() {
 	var rows []string
 	for k := 1; k <= phantomKeys; k++ {
 		if r.Intn(3) > 0 {
-			rows = append(rows, fmt.Sprintf("(%d, %d, %d, 'first')", k, r.Intn(3), r.Intn(4)))
+			a, b := r.Intn(3), r.Intn(4)
+			rows = append(rows, fmt.Sprintf("(%d, %d, %d, 'first', %s)", k, a, b, moodOf(strconv.Itoa(a))))
 		}
 	}
 	texts := []string{"BEGIN", "DELETE FROM " + one.group.table + " WHERE id > 0"} // a block's number is known

@@ -4,6 +4,7 @@ import (
 	"context"
 	"flag"
 	"fmt"
+	"strings"
 	"testing"
 
 	"github.com/jackc/pgconn"
@@ -22,7 +23,7 @@ const (
 	phantomClients = 4
 	phantomKeys    = 7 // and 0, which nobody writes, and each condition with `OR id = 0` returns
 	phantomParents = 2 // for the values 0 and 1 of a
-	phantomSchema  = "CREATE TABLE r%d (id int PRIMARY KEY, a int, b int NOT NULL, tag text NOT NULL)"
+	phantomSchema  = "CREATE TABLE r%d (id int PRIMARY KEY, a int, b int NOT NULL, tag text NOT NULL, m mood)"
 )
 
 // TestPhantoms: random histories with conditions, through the proxy. Nothing is violated that the truth doesn't have
@@ -35,7 +36,8 @@ func TestPhantoms(t *testing.T) {
 		t.Fatal(err)
 	}
 	defer direct.Close(context.Background())
-	sql(t, direct, "CREATE TABLE parents (pid int PRIMARY KEY, name text); INSERT INTO parents VALUES (0, 'zero'), (1, 'one')")
+	sql(t, direct, "CREATE TABLE parents (pid int PRIMARY KEY, name text); INSERT INTO parents VALUES (0, 'zero'), (1, 'one'); "+
+		"CREATE TYPE mood AS ENUM ('"+strings.Join(moods, "', '")+"')")
 	for i := 0; i < phantomGroups; i++ {
 		sql(t, direct, fmt.Sprintf(phantomSchema, i))
 		sql(t, direct, fmt.Sprintf("INSERT INTO r%d VALUES (0, NULL, -9, 'first')", i))

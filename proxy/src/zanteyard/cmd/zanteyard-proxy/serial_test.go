@@ -6,6 +6,7 @@ import (
 	"flag"
 	"fmt"
 	"math/rand"
+	"strings"
 	"testing"
 	"time"
 
@@ -20,10 +21,11 @@ var (
 // Writers run one after another, and readers keep one snapshot while writers run. So each history is serial, by the writers'
 // order and with each reader where its snapshot was taken: nothing may be told, whatever statements it has.
 
-const serialSchema = `CREATE TABLE a (id int PRIMARY KEY, x int, t text NOT NULL); CREATE INDEX ON a (x);
+const serialSchema = `CREATE TYPE mood AS ENUM ('m3', 'm0', 'm2', 'm1');
+	CREATE TABLE a (id int PRIMARY KEY, x int, t text NOT NULL, m mood); CREATE INDEX ON a (x);
 	CREATE TABLE b (id int PRIMARY KEY, a_id int, z int); CREATE INDEX ON b (a_id);
 	CREATE TABLE c (id int, n int, z int, PRIMARY KEY (id, n)); CREATE TABLE own (id int PRIMARY KEY, n int NOT NULL);
-	INSERT INTO a SELECT i, i % 4, 'x' FROM generate_series(0, 4) i; INSERT INTO b SELECT i, i % 5, i % 4 FROM generate_series(0, 6) i;
+	INSERT INTO a SELECT i, i % 4, 'x', 'm1' FROM generate_series(0, 4) i; INSERT INTO b SELECT i, i % 5, i % 4 FROM generate_series(0, 6) i;
 	INSERT INTO c SELECT i / 3, i % 3, i % 4 FROM generate_series(0, 6) i; INSERT INTO own SELECT i, 0 FROM generate_series(0, 9) i`
 
 // serialRun is one such history.
@@ -249,6 +251,12 @@ func (s *serialShapes) test(names ...string) string {
 		return "(abs(" + one + ") = # OR " + s.test(names...) + ")"
 	case 5:
 		return one + s.pick(" = ", " <> ", " < ") + s.column(s.pick(names...))
+	case 6, 7:
+		for _, name := range names {
+			if strings.HasSuffix(name, "a") {
+				return name + ".m" + s.pick(" = 'm#'", " = 'm#'", " <> 'm#'", " IN ('m#')", " > 'm#'", " BETWEEN 'm#' AND 'm#'")
+			}
+		}
 	}
 	return one + s.pick(" = #", " = #", " > #", " <> #", " IS DISTINCT FROM #")
 }
@@ -345,7 +353,7 @@ func (s *serialShapes) write() string {
 	table := s.pick("a", "b", "c")
 	columns := serialColumns[table]
 	last := columns[len(columns)-1]
-	values := map[string]string{"a": "#, #, 'x'", "b": "#, #, #", "c": "#, #, #"}[table]
+	values := map[string]string{"a": "#, #, 'x', 'm#'", "b": "#, #, #", "c": "#, #, #"}[table]
 	by := " WHERE " + s.test(table)
 	if s.r.Intn(3) == 0 {
 		by += " AND " + s.within(table)
@@ -365,6 +373,9 @@ func (s *serialShapes) write() string {
 	case 6:
 		return "UPDATE " + table + " SET id = id + 4" + " WHERE id = #"
 	case 7:
+		if table == "a" {
+			return "UPDATE a SET m = 'm#'" + by
+		}
 		return fmt.Sprintf("UPDATE own SET n = n + 1 WHERE id = %d AND %s", s.r.Intn(10), s.within())
 	}
 	return "UPDATE " + table + " SET " + last + " = #" + by
