@@ -6,8 +6,9 @@
 Each work of pgbench (`select` is its -S, `update` its -N, `tpcb` its tpcb-like; `transfer` is two
 reads and an update at serializable; `asks` is a read and an update, where two reads in five ask by
 a condition, hardly ever the same one) runs each way in turn: `direct`, `pgbouncer` (session
-pooling), `passing` (the proxy with --pass), `audited` (`zanteyard watch --no-conditions` with everything that
-it starts), `followed` (the same with conditions). The programs in between run only during their
+pooling), `slot` (a direct connection, while `pg_recvlogical` reads the writes from a slot as the audit
+does), `passing` (the proxy with --pass), `audited` (`zanteyard watch --no-conditions` with everything
+that it starts), `followed` (the same with conditions). The programs in between run only during their
 turn. The table has, as medians: transactions per second; their share of the direct ones; the
 microseconds of processor time per transaction, of pgbouncer or the proxy, and of the rest of the
 audit; and with --latency, the median and the 99th percentile of a transaction's time, in
@@ -36,7 +37,7 @@ TOP = os.path.join(os.path.dirname(os.path.abspath(__file__)), "..")
 sys.path[:0] = [os.path.join(TOP, "python"), os.path.join(TOP, "python/tests")]
 from proxy_pair import Server, postgres_program, proxy_program
 
-WAYS = ("direct", "pgbouncer", "passing", "audited", "followed")
+WAYS = ("direct", "pgbouncer", "slot", "passing", "audited", "followed")
 WORKS = ("select", "update", "tpcb", "transfer", "asks")
 TICKS = os.sysconf("SC_CLK_TCK")
 TRANSFER = """\\set a random(1, 100000 * :scale)
@@ -74,6 +75,11 @@ pidfile = {folder}/pgbouncer.pid
 unix_socket_dir =
 ignore_startup_parameters = extra_float_digits
 """
+
+
+SLOT = "cost"  # and what the proxy asks of its own
+OPTIONS = {"format-version": 2, "include-xids": 1, "include-lsn": 1, "include-pk": 1}
+OPTIONS |= {"include-types": 0, "include-timestamp": 0, "include-transaction": 1}
 
 
 def free_port() -> int:
@@ -160,6 +166,8 @@ class Started:
     def way(self, name: str) -> Way:
         if name == "direct":
             return Way(name, self.host, self.port)
+        if name == "slot":
+            return Way(name, self.host, self.port, self.reading())
         listen = free_port()
         url = f"postgresql://postgres@{self.host}:{self.port}/postgres"
         environment = dict(os.environ, ZANTEYARD_PROXY=self.proxy)
@@ -194,6 +202,23 @@ class Started:
             wait_for_audit(figures)
         return Way(name, "127.0.0.1", listen, started.pid)
 
+    def _recvlogical(self) -> list[str]:
+        call = [postgres_program("pg_recvlogical") or "pg_recvlogical", "-h", self.host]
+        return [*call, "-p", str(self.port), "-U", "postgres", "-d", "postgres", "-S", SLOT]
+
+    def reading(self) -> int:
+        """Starts a reader of the server's writes, and returns its process."""
+        call = [*self._recvlogical(), "-P", "wal2json", "--create-slot", "--start", "-f", "/dev/null"]
+        for option, value in OPTIONS.items():
+            call += ["-o", f"{option}={value}"]
+        log = open(os.path.join(self.folder, "slot.log"), "wb")
+        started = subprocess.Popen(call, stdin=subprocess.DEVNULL, stdout=log, stderr=log)
+        self.running.append(started)
+        time.sleep(1)  # the slot is made, and read
+        if started.poll() is not None:
+            raise SystemExit("the slot can't be read")
+        return started.pid
+
     @contextlib.contextmanager
     def turn(self, name: str) -> Iterator[Way]:
         """A context in which a way's programs run."""
@@ -201,6 +226,8 @@ class Started:
             yield self.way(name)
         finally:
             self.end()
+            if name == "slot":
+                subprocess.run([*self._recvlogical(), "--drop-slot"], check=True)
 
     def end(self) -> None:
         for each in self.running:
