@@ -241,3 +241,40 @@ func TestWhatSelectsRestOn(t *testing.T) {
 		t.Errorf("%+v", got)
 	}
 }
+
+// TestClosedInTheMiddle: a portal over a view has returned some of its rows and is closed. They count, and the transaction
+// is checked in part at most, even if it has no other statement.
+func TestClosedInTheMiddle(t *testing.T) {
+	needServer(t)
+	sql(t, fill+"; CREATE OR REPLACE VIEW viewed AS SELECT * FROM t")
+	defer sql(t, "DROP VIEW viewed")
+	const text = "SELECT id FROM viewed WHERE v < 40"
+	some := messages('Z', &pgproto3.Parse{Query: text}, &pgproto3.Bind{DestinationPortal: "c"},
+		&pgproto3.Execute{Portal: "c", MaxRows: 2}, &pgproto3.Close{ObjectType: 'P', Name: "c"}, &pgproto3.Sync{})
+	for _, x := range []struct {
+		name    string
+		steps   []step
+		selects uint64
+		rows    uint64
+	}{
+		{"alone", []step{some}, 1, 2},
+		{"in a block", []step{query("BEGIN"), query("SELECT v FROM t WHERE id = 1"), some, query("COMMIT")}, 2, 3},
+	} {
+		t.Run(x.name, func(t *testing.T) {
+			p := through(t, "postgres", nil)
+			p.warm(text, "SELECT v FROM t WHERE id = 1")
+			p.sink.take()
+			for _, one := range x.steps {
+				p.do(one)
+			}
+			p.settle()
+			its := p.sink.take()
+			if len(its) != 1 || !its[0].Partly {
+				t.Fatalf("told %+v", its)
+			}
+			if selects, _, rows := its[0].Did.Sum(len(its[0].Reads)); selects != x.selects || rows != x.rows {
+				t.Errorf("%d SELECTs and %d rows count", selects, rows)
+			}
+		})
+	}
+}

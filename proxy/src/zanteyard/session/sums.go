@@ -281,6 +281,8 @@ func (s *Session) suspended(e *expectation) {
 	if !e.changed && e.use != nil {
 		reason = s.trust.why(e.use)
 	}
+	s.tx.Touched = true // it may be closed now, and then nothing else tells of it
+	s.tx.Partly = s.tx.Partly || s.whyUnseen(p, e, reason) != ""
 	e.halted = true
 	s.sumSelect(p, e, reason, uint64(e.rows))
 	e.halted = false
