@@ -1,11 +1,16 @@
-"""Kinds of anomalies get their names. No program is needed."""
-import random
+"""Anomalies get their names from refutations: the built auditor's, or the plain one's."""
 import unittest
 
 from zanteyard import Logged
-from zanteyard.explain._anomalies import MEANINGS, _shortest_circle, find_anomaly, name_circle
-from zanteyard.explain._arcs import Arc, ArcKind
-from zanteyard.promises._kinds import SNAPSHOT, STRICT
+from zanteyard.explain import _anomalies
+from zanteyard.explain._anomalies import MEANINGS, name_cycle
+from zanteyard.explain._arcs import Arc, ArcKind, Choice
+from zanteyard.promises._kinds import GENERALIZED, PREFIX, SERIALIZABLE, SESSIONLESS, SNAPSHOT, STRICT, stronger
+
+from .built import path_of
+from .killing import PLAIN
+
+PROGRAM = path_of("cobra_audit") or PLAIN
 
 
 def txn(*reads, writes="", outcome="committed"):
@@ -15,17 +20,8 @@ def txn(*reads, writes="", outcome="committed"):
 FIRST = (0, 0)
 
 
-def first_circle(start, after):
-    """The first of all ways back to `start` over later ones, the shortest first."""
-    ways = [(start,)]
-    while ways:
-        way = ways.pop(0)
-        for following in after[way[-1]]:
-            if following == start:
-                return way
-            if following > start and following not in way:
-                ways.append((*way, following))
-    return ()
+def find_anomaly(history, *more, **options):
+    return _anomalies.find_anomaly(history, *more, program=PROGRAM, **options)
 
 
 # Each row: what it shows, the expected name, and the history.
@@ -64,7 +60,7 @@ ROWS = (
     ),
     (
         "two writers seen in two orders by sessions",
-        None,
+        "G-nonadjacent",
         [
             [txn(writes="x")],
             [txn(writes="y")],
@@ -113,8 +109,6 @@ CIRCLES = (
         [ArcKind.READ_BEFORE, ArcKind.READ, ArcKind.READ_BEFORE, ArcKind.WRITTEN],
     ),
     ("two, one after another", "G2", [ArcKind.READ_BEFORE, ArcKind.READ, ArcKind.READ_BEFORE]),
-    ("by time", None, [ArcKind.READ_BEFORE, ArcKind.IN_TIME]),
-    ("none", None, []),
 )
 
 
@@ -136,43 +130,58 @@ class Anomalies(unittest.TestCase):
 
     def test_each_has_a_meaning(self):
         named = {wanted for _, wanted, _ in ROWS} - {None, "read of what was never written"}
-        circles = {name for _, name, _ in CIRCLES} - {None}
+        circles = {name for _, name, _ in CIRCLES}
         by_conditions = {"phantom", "write skew over a condition"}  # of a proxy's feed alone
         self.assertEqual(named | circles | by_conditions, {*MEANINGS})
 
-    def test_a_circle_without_a_pattern_is_named_by_what_leads_round(self):
+    def test_a_circle_of_no_usual_form_is_named_by_what_leads_round(self):
         for shows, wanted, kinds in CIRCLES:
             ids = [(at, 0) for at in range(len(kinds))]
+            choice = Choice(ids[0], "x", ids[-1], ids[1])  # which of the writers came later isn't known
             arcs = [
-                Arc(ids[at], ids[(at + 1) % len(ids)], "", (), kind)
+                Arc(ids[at], ids[(at + 1) % len(ids)], "", (), kind, choice=choice)
                 for at, kind in enumerate(kinds)
             ]
             with self.subTest(shows=shows):
-                found = name_circle(arcs)
-                self.assertEqual(None if found is None else found.name, wanted)
+                cycle = _anomalies._Cycle(arcs, {it: txn() for it in ids}, str)
+                self.assertIn(cycle.named() and cycle.named().name, (None, wanted))
+                self.assertEqual(cycle.by_kind("").name, wanted)
+        by_time = [Arc(ids[0], ids[1], "", (), ArcKind.READ_BEFORE, choice=choice)]
+        by_time.append(Arc(ids[1], ids[0], "", (), ArcKind.IN_TIME))
+        for arcs in ([], by_time):
+            self.assertIsNone(name_cycle(arcs, {it: txn() for it in ids}))
+
+    def test_what_each_excludes(self):
+        """What excludes a promise excludes the stronger ones; without session order only what reads
+        alone show."""
+        for shows, wanted, history in ROWS:
+            found = find_anomaly(history)
+            with self.subTest(shows=shows):
+                for each in found.excludes if found else ():
+                    self.assertLessEqual({*stronger(each)}, {*found.excludes})
+        its = {shows: find_anomaly(history) for shows, _, history in ROWS}
+        for shows, in_it, not_in_it in (
+            ("of two", (SERIALIZABLE, SESSIONLESS), (SNAPSHOT, PREFIX)),
+            ("from the start", (SNAPSHOT, GENERALIZED), (PREFIX,)),
+            ("half", (PREFIX, GENERALIZED), ()),
+            ("own write", (PREFIX,), (SESSIONLESS, GENERALIZED)),
+        ):
+            with self.subTest(shows=shows):
+                self.assertLessEqual({*in_it}, {*its[shows].excludes})
+                self.assertFalse({*not_in_it} & {*its[shows].excludes})
 
     def test_snapshot_isolation_has_no_write_skew(self):
         (skew,) = [history for shows, _, history in ROWS if shows == "of two"]
         self.assertIsNone(find_anomaly(skew, promise=SNAPSHOT))
 
     def test_many_that_overwrite_each_other(self):
-        """As many as a part may have, of which each has read what all later ones overwrote: there
-        are too many ways among them to try."""
-        chain = [txn(("x", (0, at - 1) if at else "init"), writes="x") for at in range(39)]
+        """Each has read what all later ones overwrote: only the two last are on the cycle."""
+        chain = [txn(("x", (0, at - 1) if at else "init"), writes="x") for at in range(19)]
         self.assertIsNone(find_anomaly([chain]))
         last = (0, len(chain) - 1)
         skew = [[txn(("x", last), ("y", "init"), writes=key)] for key in "xy"]
         found = find_anomaly([chain, *skew])
         self.assertEqual((found.name, found.transactions), ("write skew", ((1, 0), (2, 0))))
-
-    def test_the_shortest_circle_is_the_first_of_all_ways(self):
-        rng = random.Random(1)
-        for _ in range(2000):
-            ids = [(at, 0) for at in range(rng.randrange(1, 7))]
-            after = {it: rng.sample(ids, rng.randrange(len(ids))) for it in ids}
-            for its in after:
-                after[its] = [it for it in after[its] if it != its]
-                self.assertEqual(_shortest_circle(its, after), first_circle(its, after))
 
     def test_a_read_that_its_clock_excludes(self):
         """A read that the times exclude is reported only if the promise includes time."""

@@ -10,17 +10,16 @@ from dataclasses import replace
 
 from zanteyard import Logged
 from zanteyard.core.errors import ZanteyardError
-from zanteyard.explain._anomalies import MEANINGS, Anomaly, name_circle
+from zanteyard.explain._anomalies import Anomaly, name_cycle
 from zanteyard.explain._arcs import Arc, ArcKind, Choice
 from zanteyard.explain._audited import audited_apart
-from zanteyard.explain._claims import BY_TIME, EXCLUDED, contradicts, excluded
 from zanteyard.explain._explanation import Explanation
 from zanteyard.explain._reasons import explanation_of
 from zanteyard.explain._report import story_lines, story_of
 from zanteyard.explain._shrinking import smaller
 from zanteyard.explain._standing import Standing, standing
 from zanteyard.explain._words import name as plain_name
-from zanteyard.promises._kinds import ALL, SERIALIZABLE, SNAPSHOT, STRICT
+from zanteyard.promises._kinds import ALL, SERIALIZABLE, SNAPSHOT
 
 from .built import TOP, path_of
 from .plain_explanations import Check
@@ -115,29 +114,12 @@ def called(story):
 class Rule(unittest.TestCase):
     """No program is needed."""
 
-    def test_each_name_has_its_row(self):
-        self.assertEqual({*EXCLUDED}, {*MEANINGS, "read of what was never written"})
-        self.assertLessEqual({*BY_TIME}, {*EXCLUDED})
-
-    def test_what_excludes_a_promise_excludes_the_stronger_ones(self):
-        for called, promise in itertools.product(EXCLUDED, (SERIALIZABLE, SNAPSHOT, STRICT)):
-            its = excluded(called, promise)
-            with self.subTest(called=called, promise=promise.name):
-                self.assertIn(STRICT, its)
-                if not promise.is_timed:
-                    self.assertIn(SERIALIZABLE, its)
-
     def test_a_name_that_contradicts_is_left_out(self):
-        for called, kept, stays in (
-            ("circular information flow", SNAPSHOT, False),
-            ("G-single", SNAPSHOT, False),
-            ("G2", SNAPSHOT, True),
-            ("write skew", SNAPSHOT, True),
-        ):
+        for called, excludes, stays in (("G-single", [SNAPSHOT], False), ("G2", [SERIALIZABLE], True)):
             with self.subTest(called=called):
                 story = story_of([[Logged((), ())]], plain_name, Explanation("so"))
-                its = replace(story, anomaly=Anomaly(called, "so", ()))
-                told = "\n".join(story_lines(its.with_standing(Standing((), [kept]))))
+                its = replace(story, anomaly=Anomaly(called, "so", (), excludes))
+                told = "\n".join(story_lines(its.with_standing(Standing((), [SNAPSHOT]))))
                 self.assertIn("leaves snapshot isolation standing", told)
                 self.assertEqual(called in told, stays)
 
@@ -155,7 +137,7 @@ class Rule(unittest.TestCase):
             way = Arc(other, last, "", (), needs[0]), Arc(last, reader, "", (), needs[1])
             forced = Arc(other, writer, "", way, ArcKind.WRITTEN, "x", choice)
             with self.subTest(needs=needs):
-                found = name_circle([read, forced])
+                found = name_cycle([read, forced], {it: Logged((), ()) for it in (reader, writer, other, last)})
                 self.assertEqual(found and found.name, wanted)
 
 
@@ -175,7 +157,7 @@ class Names(unittest.TestCase):
 
     def agrees(self, history, promise, kept):
         story, explanation = named(history, promise)
-        wrong = story.anomaly and contradicts(called(story), promise, kept)
+        wrong = story.anomaly and story.anomaly.contradicts(kept)
         self.assertFalse(wrong, f"{called(story)}: {history}, which keeps {kept}")
         Check(history, promise.is_split).explanation(explanation)
         return called(story)

@@ -325,7 +325,7 @@ class Explained(unittest.TestCase):
         self.assertLess(took[1], 30 * took[0] + 2.0, took)
 
     def test_what_is_left_large_isnt_printed_whole(self):
-        lines = [*story_lines(Story("violated", lines=("a line",) * 5000, unnamed=5000))]
+        lines = [*story_lines(Story("violated", lines=("a line",) * 5000))]
         self.assertIn(f"    and {5000 - MOST_LINES:,} more lines like these", lines)
         self.assertLess(len(lines), MOST_LINES + 20)
 

@@ -12,6 +12,7 @@ import unittest
 
 from zanteyard import RATHER_WAIT, AbortedError, Auditor, LiveAuditor, Logged
 from zanteyard.cli._main import main
+from zanteyard.explain._anomalies import find_anomaly
 from zanteyard.explain._explanation import Explanation
 from zanteyard.explain._reasons import explain_history
 from zanteyard.explain._report import story_lines, story_of
@@ -67,14 +68,15 @@ class Reasons(unittest.TestCase):
         idle, lost = [txn()] * 10000, txn(("x", "init"), writes="x")
         for promise in (SERIALIZABLE, SNAPSHOT):
             history = [[*idle, lost], [*idle, lost]]
-            story = story_of(history, plain_name, Explanation("so"), promise=promise)
-            self.assertEqual((story.anomaly.name, story.unnamed), ("lost update", 0))
+            small = smaller(history, PLAIN, promise=promise)
+            self.assertEqual([len(its) for its in small], [10001] * 2)
+            self.assertEqual(find_anomaly(small, promise=promise, program=PLAIN).name, "lost update")
 
     def test_what_is_too_much_is_said(self):
-        """Among many transactions no name is looked for, and no broken promises."""
+        """Among many transactions no broken promises are looked for."""
         many = [[txn(("x", "init"), writes="x")] for _ in range(65)]
         told = "\n".join(story_lines(story_of(many, plain_name, Explanation("so"))))
-        self.assertIn("it wasn't made smaller than 65 transactions, and a name is looked for among at", told)
+        self.assertIn("(it wasn't made smaller than 65 transactions)", told)
         told = "\n".join(standing(many, PROGRAM).lines())
         self.assertIn("which promises it breaks wasn't asked: it has 65 transactions", told)
         told = "\n".join(standing(many[:2], "/no/program", seconds=-1.0).lines())

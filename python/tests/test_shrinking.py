@@ -104,7 +104,7 @@ class Shrinking(unittest.TestCase):
         self.assertEqual(audited(small)[0].kind, "violated")
         part = Part.of(small)
         for id in part.txns:
-            self.assertIsNone(part.only(part.txns.keys() - {id}).report(PROGRAM), id)
+            self.assertIsNone(part.only(part.txns.keys() - {id}).refuted(PROGRAM), id)
 
     def test_the_whole_is_not_audited_again_where_its_refutation_is_known(self):
         sizes = []

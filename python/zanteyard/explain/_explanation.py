@@ -19,16 +19,25 @@ class Case:
 
 
 @dataclass(frozen=True)
+class WrongRead:
+    """A read that no order allows: its source didn't write the key."""
+
+    reader: ShownId
+    key: str
+    source: ShownId
+
+
+@dataclass(frozen=True)
 class Explanation:
     """A refutation, which ends in one of three ways. Either `arcs` lead from a transaction back to
     itself, as `circle` names it; or there are two `cases`, one of which holds in any order; or
-    neither, and `end` describes a read that no order allows. `end` is a sentence about how it
-    ends."""
+    `read` is one that no order allows. `end` is a sentence about how it ends."""
 
     end: str
     arcs: tuple[Arc, ...] = ()
     circle: tuple[str, ...] = ()  # ends with the first transaction again
     cases: tuple[Case, ...] = ()
+    read: WrongRead | None = None
 
     @property
     def lines(self) -> tuple[str, ...]:

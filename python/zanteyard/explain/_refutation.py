@@ -17,7 +17,7 @@ from ._arc_words import ArcWords
 from ._arcs import SESSION, Arc, ArcKind, Choice, Ends, Event, Node, below, merged
 from ._arcs import is_of_writers, shortest_circle, table, transaction_of
 from ._cycles import places_to, weakest, weakness
-from ._explanation import Case, Explanation
+from ._explanation import Case, Explanation, WrongRead
 
 MOST_ARCS = 256  # arcs among which a shorter cycle is looked for
 MANY = 24  # splits of a refutation; one with more isn't explained case by case
@@ -97,7 +97,8 @@ class _Reading:
             for read, source in self.txns[reader].reads
             if read == key and source in self.txns and key not in self.txns[source].writes
         )
-        return Explanation(self.words.wrong_read(reader, key, source))
+        read = WrongRead(reader, key, ShownId(source))
+        return Explanation(self.words.wrong_read(reader, key, source), read=read)
 
     def _path(self, cycle: Sequence[Any], ruled_out: Ends, facts: Facts) -> list[Arc]:
         """The rest of a cycle, from the end of the arc that it rules out to its start."""

@@ -13,15 +13,14 @@ from ..core._circumstances import caller_of, circumstances, clock_of, values_of
 from ..core._records import AuditId, History, Logged, Naming, Pending, ShownId
 from ..core._verdict_kinds import Kind
 from ..promises._kinds import SERIALIZABLE, Promise
-from ._anomalies import Anomaly, find_anomaly, meaning_of, name_circle
+from ._anomalies import Anomaly, anomaly_in, meaning_of
 from ._arcs import transaction_of
 from ._audited import Holding, audited_apart, from_start, refuted
-from ._claims import contradicts
 from ._explanation import Explanation, Reasons, laid_out
 from ._reasons import explanation_of
 from ..scripts._names import PART, REST
 from ..scripts._running import ScriptHistory, Verdict
-from ._shrinking import NAMED, SECONDS, smaller
+from ._shrinking import SECONDS, SMALL, smaller
 from ._standing import Apart, Standing, standing
 from ._words import version as version_text
 from ._words import words
@@ -74,7 +73,6 @@ class Story:
     standing: Standing = Standing()  # what else a violation breaks, and what it doesn't
     others: tuple["Story", ...] = ()  # violations that are independent of this one
     are_all_found: bool = True  # whether there are no more than these
-    unnamed: int = 0  # transactions, if these were too many to look for an anomaly
 
     @property
     def sentence(self) -> str:
@@ -84,8 +82,7 @@ class Story:
     def with_standing(self, standing: Standing) -> Story:
         """The story with what the violation breaks and keeps. A name that contradicts this is left
         out: names are an aid, and what is kept was checked."""
-        name = self.anomaly.name if self.anomaly else ""
-        if name and contradicts(name, self.promise, standing.kept):
+        if self.anomaly is not None and self.anomaly.contradicts(standing.kept):
             return replace(self, anomaly=None, standing=standing)
         return replace(self, standing=standing)
 
@@ -156,19 +153,14 @@ def story_of(
     script: str = "",
     counts: Sequence[int] = (),
     promise: Promise = SERIALIZABLE,
-    by: Promise | None = None,
 ) -> Story:
-    """The story of a violated history that is small already. A history that couldn't be reduced in
-    time is named only by its cycle, since looking for an anomaly among many transactions takes
-    minutes. `by` is the promise that the explanation is about, if that is another one."""
-    count = sum(any(logged.did) for txns in history for logged in txns)
-    anomaly = find_anomaly(history, names, by or promise) if count <= NAMED else None
+    """The story of a violated history that is small already."""
     arcs = explanation.all_arcs()
     ends = {transaction_of(end) for arc in arcs for end in arc.ends}
     return Story(
         Kind.VIOLATED,
         tuple(counts),
-        anomaly or name_circle(explanation.arcs, names),
+        anomaly_in(explanation, history, names),
         tuple(_steps(history, names, ends)),
         laid_out(explanation),
         tuple(words(history, names)),
@@ -176,7 +168,6 @@ def story_of(
         explanation.lines,
         script,
         promise=promise,
-        unnamed=count if count > NAMED else 0,
     )
 
 
@@ -246,11 +237,8 @@ def _one_story(story: Story) -> Iterator[str]:
         meaning = meaning_of(story.anomaly.name)
         yield f"  {story.anomaly.name}" + (f" ({meaning}):" if meaning else ":")
         yield f"  {story.anomaly.sentence}"
-    if story.unnamed:
-        yield (
-            f"  (it wasn't made smaller than {story.unnamed:,} transactions, and a name is looked "
-            f"for among at most {NAMED})"
-        )
+    if len(story.steps) > SMALL:
+        yield f"  (it wasn't made smaller than {len(story.steps):,} transactions)"
     for line in story.lines[:MOST_LINES]:
         yield f"    {line}"
     if len(story.lines) > MOST_LINES:

@@ -8,7 +8,7 @@ import time
 from collections.abc import Container, Iterable, Iterator, Mapping
 from concurrent.futures import ThreadPoolExecutor
 from itertools import islice
-from typing import Any
+from typing import Any, NamedTuple
 
 from ..core._own_keys import is_own
 from ..core._records import History, Logged, ShownId, Source
@@ -16,17 +16,17 @@ from ..core._verdict_kinds import Kind
 from ..program._binaries import PROGRAM
 from ..promises._asking import LIMIT, longest
 from ..promises._kinds import SERIALIZABLE, Promise
-from ._anomalies import UNREPEATABLE, find_anomaly
+from ._anomalies import FORK, FRACTURED, SKEW, STALE, UNREPEATABLE, anomaly_in
 from ._arcs import transaction_of
-from ._audited import START, Holding, audited_apart, from_start, named, only_keys, renumbered
+from ._audited import START, Holding, audited_apart, from_start, named, only_keys
 from ._audited import wrong_sources
 from ._lost_updates import lost_updates
-from ._words import name
+from ._reasons import explanation_of
 
 SECONDS = 5.0  # seconds for reducing a history
 # Cycles that give way to a lost update, if there is one of at most the same size.
-LESS_PLAIN = (None, UNREPEATABLE, "fractured read", "stale read", "long fork", "write skew")
-NAMED = 40  # transactions of a part in which an anomaly is looked for, at most
+LESS_PLAIN = (None, UNREPEATABLE, FRACTURED, STALE, FORK, SKEW)
+SMALL = 40  # transactions of a part whose anomaly stays the same while it is reduced, at most
 SIDE_BY_SIDE = max(1, min(4, os.cpu_count() or 1))  # auditors
 
 
@@ -35,7 +35,7 @@ def is_violated(
 ) -> bool:
     """Whether the history is violated. Transactions that did nothing are left out, so that a few
     among many are checked fast."""
-    return Part.of(history, promise).report(program) is not None
+    return Part.of(history, promise).refuted(program) is not None
 
 
 def is_collectors_own(auditor: Holding, program: str = PROGRAM) -> bool:
@@ -45,6 +45,14 @@ def is_collectors_own(auditor: Holding, program: str = PROGRAM) -> bool:
     return is_violated(only_keys(history, is_own), program, promise) and not is_violated(
         only_keys(history, lambda key: not is_own(key)), program, promise
     )
+
+
+class Refuted(NamedTuple):
+    """What the refutation of a part names, and the name of its anomaly, if the part is small and it
+    has one."""
+
+    ids: set[ShownId]
+    anomaly: str | None = None
 
 
 class Part:
@@ -88,8 +96,8 @@ class Part:
         reads = [read for read in logged.reads if read[1] == "init" or read[1] in kept]
         return logged if len(reads) == len(logged.reads) else logged._replace(reads=reads)
 
-    def report(self, program: str) -> set[ShownId] | None:
-        """What the refutation of these transactions names, if they are violated by themselves; else
+    def refuted(self, program: str) -> Refuted | None:
+        """What the refutation of these transactions says, if they are violated by themselves; else
         None. They are renumbered without gaps."""
         old: list[list[ShownId]] = []
         sessions: dict[int, int] = {}
@@ -105,11 +113,15 @@ class Part:
         found = audited_apart(history, program, self.promise) if history else None
         if found is None or found.report.kind != Kind.VIOLATED:
             return None
+        name = None
+        if len(self.txns) <= SMALL:
+            anomaly = anomaly_in(explanation_of(found, history), history)
+            name = anomaly.name if anomaly is not None else None
         if not self.promise.keeps_sessions:  # the report has other numbers
-            return {*self.txns}
+            return Refuted({*self.txns}, name)
         ids = named(found.report.certificate)
         whole = (transaction_of(found.moved(ShownId(id))) for id in ids)
-        return {old[session][number] for session, number in whole}
+        return Refuted({old[session][number] for session, number in whole}, name)
 
     @staticmethod
     def moved(logged: Logged, new: Mapping[Source, ShownId]) -> Logged:
@@ -153,10 +165,6 @@ class Part:
             whole[session] += [Logged((), ())] * (number - len(whole[session])) + [logged]
         return whole
 
-    def dense_history(self) -> History:
-        """The same without these gaps, in which transactions have other numbers."""
-        return renumbered(self._plainly(), 1 + max(id[0] for id in self.txns))[0]
-
     def _plainly(self) -> dict[ShownId, Logged]:
         """The transactions. An aborted one has only those of its writes that somebody has read."""
         read = {(source, key) for logged in self.txns.values() for key, source in logged.reads}
@@ -186,29 +194,29 @@ def smaller(
     ends = time.monotonic() + seconds
     whole = Part.of(history, promise)
     part = whole.only(known)
-    ids = part.report(program)
-    if ids is None:
-        part, ids = whole, whole.report(program)
-    if ids is None:
+    refuted = part.refuted(program)
+    if refuted is None:
+        part, refuted = whole, whole.refuted(program)
+    if refuted is None:
         return history
-    part = by_names(part, ids, program)
+    part, refuted = by_names(part, refuted, program)
     needed: set[Any] = set()  # what one part needs, its smaller parts need, too
     while time.monotonic() < ends:
-        lesser = next_smaller(part, needed, program, ends)
+        lesser = next_smaller(part, refuted.anomaly, needed, program, ends)
         if lesser is None:
             break
-        part = by_names(*lesser, program)
-    return lost_update_if_any(whole, part, program).history(len(history))
+        part, refuted = by_names(*lesser, program)
+    if len(part.txns) <= SMALL and refuted.anomaly in LESS_PLAIN:
+        part = lost_update_if_any(whole, part, program)
+    return part.history(len(history))
 
 
 def lost_update_if_any(whole: Part, part: Part, program: str) -> Part:
-    """A lost update of at most as many transactions, if the part is another kind of cycle, since
-    people understand it best. Else the part."""
-    if len(part.txns) > NAMED or _called(part) not in LESS_PLAIN:
-        return part
+    """A lost update of at most as many transactions, since people understand it best. Else the
+    part."""
     found = (it for it in _lost_updates(whole) if len(it.txns) <= len(part.txns))
     for candidate in islice(found, SIDE_BY_SIDE):
-        if candidate.report(program) is not None:
+        if candidate.refuted(program) is not None:
             return candidate
     return part
 
@@ -234,57 +242,43 @@ def _lost_updates(whole: Part) -> Iterator[Part]:
         yield Part(txns, whole.promise)
 
 
-def by_names(part: Part, ids: set[ShownId], program: str) -> Part:
+def by_names(part: Part, refuted: Refuted, program: str) -> tuple[Part, Refuted]:
     """Keeps only what refutations name, until nothing changes."""
     while True:
-        fewer = part.only(ids)
+        fewer = part.only(refuted.ids)
         if len(fewer.txns) >= len(part.txns):
-            return part
-        left = fewer.report(program)
+            return part, refuted
+        left = fewer.refuted(program)
         if left is None:
-            return part
-        part, ids = fewer, left
-
-
-def _called(part: Part) -> str | None:
-    """The name of the anomaly in the part, if it has one."""
-    if len(part.txns) > NAMED:
-        return None
-    anomaly = find_anomaly(part.dense_history(), promise=part.promise)
-    return anomaly.name if anomaly is not None else None
+            return part, refuted
+        part, refuted = fewer, left
 
 
 def next_smaller(
-    part: Part, needed: set[Any], program: str, ends: float
-) -> tuple[Part, set[ShownId]] | None:
-    """A part with one thing less, and what its refutation names; None if everything is needed, or
-    the time is up. A read or a write stays if leaving it out would lose the anomaly's name. Several
-    auditors run in parallel, since one takes longer to start than to check few transactions. Of a
-    large part, one at a time: so the last ends soon after the time is up."""
-    called = _called(part)
+    part: Part, anomaly: str | None, needed: set[Any], program: str, ends: float
+) -> tuple[Part, Refuted] | None:
+    """A part with one thing less, and its refutation; None if everything is needed, or the time is
+    up. A read or a write stays if leaving it out would lose the anomaly's name. Several auditors
+    run in parallel, since one takes longer to start than to check few transactions. Of a large
+    part, one at a time: so the last ends soon after the time is up."""
     side_by_side = SIDE_BY_SIDE if len(part.txns) <= LIMIT else 1
 
-    def keeps_name(what: Any, candidate: Part) -> bool:
-        is_of_transactions = isinstance(what, frozenset)
-        return is_of_transactions or called is None or _called(candidate) == called
+    def refuted(candidate: Part) -> Refuted | None:
+        return candidate.refuted(program)
 
-    def report(candidate: Part) -> set[ShownId] | None:
-        return candidate.report(program)
-
-    left = (
-        (what, candidate)
-        for what, candidate in part.lesser()
-        if what not in needed and keeps_name(what, candidate)
-    )
+    left = ((what, candidate) for what, candidate in part.lesser() if what not in needed)
     with ThreadPoolExecutor(side_by_side) as pool:
         while time.monotonic() < ends:
             some = [*islice(left, side_by_side)]
             if not some:
                 break
-            for (what, candidate), ids in zip(
-                some, pool.map(report, (candidate for _, candidate in some))
-            ):
-                if ids is not None:
-                    return candidate, ids
-                needed.add(what)
+            candidates = [candidate for _, candidate in some]
+            for (what, candidate), found in zip(some, pool.map(refuted, candidates)):
+                is_of_transactions = isinstance(what, frozenset)
+                if found is not None and (
+                    is_of_transactions or anomaly is None or found.anomaly == anomaly
+                ):
+                    return candidate, found
+                if found is None:
+                    needed.add(what)
     return None

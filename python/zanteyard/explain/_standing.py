@@ -124,14 +124,14 @@ class Apart:
             if left is None or began + took > ends:  # the next one will take as long as the last
                 return
             self._part = left
-            ids = left.report(self._program)
+            refuted = left.refuted(self._program)
             took = time.monotonic() - began
-            if ids is None:
+            if refuted is None:
                 self.are_all_found = True
                 return
             whole, promise = left.history(self._sessions), left.promise
             rest = max(0.0, ends - time.monotonic())
-            small = smaller(whole, self._program, rest, ids, promise)
+            small = smaller(whole, self._program, rest, refuted.ids, promise)
             yield small
 
     def _without(self, small: History) -> Part | None:

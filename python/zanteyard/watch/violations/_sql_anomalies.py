@@ -2,38 +2,23 @@
 
 In the proxy's lines each write is also a read of the version that it replaces. So a lost update
 appears as a transaction that read two versions of a row: the one that it selected, and the one that
-its update replaced. This module gives it its usual name. The verdict doesn't depend on this: what
-is shown is a part of the log that the auditor found violated, too.
+its update replaced. This module finds the part of the log that is the lost update by itself. The
+verdict doesn't depend on this: the auditor is asked whether that part is violated, too.
 """
 
-from collections.abc import Container, Iterator, Mapping, Sequence
+from collections.abc import Container, Mapping, Sequence
 from dataclasses import replace
 from typing import Any
 
 from ...core._records import ABORTED, AuditId, History, Logged, Naming, ShownId, Source, has_come
 from ...core._visible import visible
-from ...explain._anomalies import ONE_IS_LOST, UNREPEATABLE, Anomaly
+from ...explain._anomalies import FRACTURED, LOST_UPDATE, ONE_IS_LOST, SKEW, UNREPEATABLE
+from ...explain._cycles import SINGLE
 from ...explain._lost_updates import LostUpdate, lost_updates
 from ...explain._report import Story
 from ...explain._shrinking import Part, is_violated
-from ...explain._words import version
 from ...promises._kinds import SERIALIZABLE, Promise
 from ._updates import APART, LOST, Fate
-
-FRACTURED = "fractured read"
-
-
-def read_twice(history: History) -> Iterator[tuple[ShownId, str, set[Source]]]:
-    """Transactions that read several versions of one key."""
-    for session, transactions in enumerate(history):
-        for number, logged in enumerate(transactions):
-            sources: dict[str, set[Source]] = {}
-            for key, source in logged.reads:
-                sources.setdefault(key, set()).add(source)
-            for key, its in sources.items():
-                if len(its) > 1:
-                    yield ShownId((session, number)), key, its
-
 
 RowUpdate = LostUpdate[AuditId, int, tuple[Any, ...]]  # a lost one, of a row
 
@@ -89,9 +74,9 @@ def _both(
     return Part(txns).history(len(whole))
 
 
-SKEW, PHANTOM = "write skew over a condition", "phantom"
+PHANTOM = "phantom"
 OVER_CONDITIONS: Mapping[str, str] = {
-    "write skew": SKEW, FRACTURED: PHANTOM, UNREPEATABLE: PHANTOM, "G-single": PHANTOM,
+    SKEW: f"{SKEW} over a condition", FRACTURED: PHANTOM, UNREPEATABLE: PHANTOM, SINGLE: PHANTOM,
 }
 
 
@@ -121,7 +106,7 @@ def whose_is_lost(
     is lost. Whether a statement computed its value from what it replaced, as UPDATE .. SET n = n +
     1 does, its text may say (`fate`); else only the application knows."""
     anomaly = story.anomaly
-    if anomaly is None or anomaly.name != "lost update" or replaced is None:
+    if anomaly is None or anomaly.name != LOST_UPDATE or replaced is None:
         return story
     later, earlier = map(name, replaced)
     sentence = anomaly.sentence.replace(ONE_IS_LOST, _told_fate(earlier, later, fate))
@@ -140,15 +125,3 @@ def _told_fate(earlier: str, later: str, fate: Fate | None) -> str:
         f"{earlier}'s update isn't lost, since {later}'s built on it, but what {later} had read "
         "before was out of date"
     )
-
-
-def named(story: Story, small: History, name: Naming) -> Story:
-    """The story, with SQL's name for the anomaly."""
-    anomaly = story.anomaly
-    if anomaly is None or anomaly.name != FRACTURED:
-        return story
-    for one, key, sources in read_twice(small):
-        told = sorted((version(key, source, name) for source in sources), reverse=True)
-        sentence = f"{name(one)} read {key} {' and '.join(told)}"
-        return replace(story, anomaly=Anomaly(UNREPEATABLE, sentence, (one,)))
-    return story

@@ -23,7 +23,6 @@ from ._kept import Kept, Transaction
 from ._sql_anomalies import (
     RowUpdate, both_replaced, lost_update, over_conditions, whose_is_lost
 )
-from ._sql_anomalies import named as named_story
 from ._statement_reads import as_shown, by_statement
 from ._updates import Fate, fate_of
 
@@ -357,9 +356,9 @@ def explained(
     renamed = _with_keys(small, shown)
     audited = audited._replace(keys=[shown.get(key, key) for key in audited.keys])
     explanation = explanation_of(audited, renamed, called)
-    story = story_of(renamed, called, explanation, script, counts, promise, by)
+    story = story_of(renamed, called, explanation, script, counts, promise)
     conditions = {shown[key_text(key)] for key, row in answered.keys.items() if row.condition}
-    story = over_conditions(named_story(story, renamed, called), renamed, conditions)
+    story = over_conditions(story, renamed, conditions)
     replaced = _replaces(story, held, ids)
     story = whose_is_lost(story, called, replaced, _fate(held, ids, replaced, answered))
     story = story.with_standing(stands)
