@@ -201,12 +201,8 @@ func (n *names) back(e *expectation) {
 // ended forgets what ends with a transaction: the protocol's portals, and cursors that don't outlive it. A portal whose Bind
 // isn't answered yet is bound behind the end, and stays.
 func (n *names) ended(q *queue) {
-	var later []string
-	if len(n.portals) > 0 {
-		later = q.binds()
-	}
 	for k := range n.portals {
-		if !contains(later, k) {
+		if q.binds[k] == 0 {
 			delete(n.portals, k)
 		}
 	}
@@ -217,15 +213,6 @@ func (n *names) ended(q *queue) {
 		}
 	}
 	n.unsure = n.unsure && len(n.cursors) > 0
-}
-
-func contains(names []string, name string) bool {
-	for _, one := range names {
-		if one == name {
-			return true
-		}
-	}
-	return false
 }
 
 // discarded forgets all named statements; the unnamed one stays.

@@ -88,8 +88,9 @@ type queue struct {
 	parts  uint64 // and those that were sent whole
 	list   []expectation
 	head   int
-	pieces int       // of the statements in it
-	sent   time.Time // when the client's messages that are added now were sent
+	pieces int            // of the statements in it
+	binds  map[string]int // of the client's portals, by name, how many Binds aren't answered
+	sent   time.Time      // when the client's messages that are added now were sent
 	era    uint64
 	// levels and doubts are what trust counts now.
 	levels, doubts *uint64
@@ -105,6 +106,12 @@ func (q *queue) push(e expectation) {
 	}
 	q.list = append(q.list, e)
 	q.pieces += len(e.pieces)
+	if e.message == 'B' && e.undo == undoPortal {
+		if q.binds == nil {
+			q.binds = map[string]int{}
+		}
+		q.binds[e.name]++
+	}
 	if e.ends() {
 		q.parts++
 	}
@@ -158,21 +165,17 @@ func (q *queue) running() uint64 {
 	return q.ended + 1
 }
 
-// binds returns the names of the client's portals whose Bind isn't answered.
-func (q *queue) binds() (names []string) {
-	for i := q.head; i < len(q.list); i++ {
-		if e := &q.list[i]; e.message == 'B' && e.undo == undoPortal && !contains(names, e.name) {
-			names = append(names, e.name)
-		}
-	}
-	return names
-}
-
 func (q *queue) pop() {
-	if q.list[q.head].ends() {
+	e := &q.list[q.head]
+	if e.ends() {
 		q.ended++
 	}
-	q.pieces -= len(q.list[q.head].pieces)
+	if e.message == 'B' && e.undo == undoPortal {
+		if q.binds[e.name]--; q.binds[e.name] == 0 {
+			delete(q.binds, e.name)
+		}
+	}
+	q.pieces -= len(e.pieces)
 	q.list[q.head] = expectation{} // lets go of what it points to
 	q.head++
 	switch {
