@@ -131,6 +131,37 @@ func TestMomentOfAnotherAudit(t *testing.T) {
 	}
 }
 
+// A round waits for what was reported before it, if the server's log is late; the last one of an audit for longer, since
+// nothing comes after it.
+func TestRoundsWaitForTheLog(t *testing.T) {
+	for _, one := range []struct {
+		written, isLast bool
+		passed          time.Duration
+		want            bool
+	}{
+		{true, false, 0, true},
+		{true, true, 0, true},
+		{false, false, mostSettling, false},
+		{false, false, mostSettling + 1, true},
+		{false, true, mostSettling + 1, false},
+		{false, true, lastSettling, false},
+		{false, true, lastSettling + 1, true},
+	} {
+		b := newBench(t, Options{Sessions: 1})
+		b.connect(1)
+		events := 0
+		j := &Joiner{core: b.core, inbox: NewInbox(1000), output: counting{&events}}
+		j.meeting = meeting{phase: settling, noted: b.now, upTo: []uint64{1}, isLast: one.isLast}
+		if one.written {
+			j.meeting.upTo = []uint64{0}
+		}
+		j.meet(context.Background(), b.now.Add(one.passed))
+		if got := j.meeting.phase == apart; got != one.want || events > 0 != (got && one.isLast) {
+			t.Errorf("%+v: it ends: %v, with %d events", one, got, events)
+		}
+	}
+}
+
 // counting is an Output that counts events.
 type counting struct{ events *int }
 

@@ -25,7 +25,7 @@ func (j *Joiner) meet(ctx context.Context, now time.Time) {
 			j.sought = time.Time{}
 		}
 	case settling:
-		if j.core.isWritten(j.meeting.upTo) || now.Sub(j.meeting.noted) > mostSettling {
+		if j.core.isWritten(j.meeting.upTo) || now.Sub(j.meeting.noted) > j.meeting.waits() {
 			j.endMeeting()
 		}
 	}

@@ -30,8 +30,20 @@ type meeting struct {
 	alone  bool // it is a round alone: no moment was sought
 }
 
-// mostSettling is how long a round waits for what was reported before its meeting.
-const mostSettling = 5 * time.Second
+// mostSettling is how long a round waits for what was reported before its meeting, and lastSettling how long the last
+// one does: what isn't written by then never is, and a fence that is written might read one that isn't.
+const (
+	mostSettling = 5 * time.Second
+	lastSettling = 20 * time.Second
+)
+
+// waits returns how long the meeting's round waits for what was reported before it.
+func (m *meeting) waits() time.Duration {
+	if m.isLast {
+		return lastSettling
+	}
+	return mostSettling
+}
 
 // room returns how many more transactions may be named.
 func (c *core) room() int { return c.opt.Limit - c.opt.fenceRoom() - c.remain }
