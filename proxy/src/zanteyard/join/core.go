@@ -41,11 +41,11 @@ type core struct {
 	full        time.Time // since when there is no room; zero if there is
 
 	rows       *rows
-	writers    map[uint32]*writer // those that only the slot or only a session has reported
-	late       []*writer          // commits in the slot's order that may still turn out to be somebody else's
-	others     claims             // those that did
-	apart      func() bool        // whether a proxy elsewhere doesn't feed the audit at the moment; nil: there is none
-	owed       map[uint32]string  // why writes of folded transactions that the slot hasn't reported yet are left out, by number
+	writers    map[uint32]*writer   // those that only the slot or only a session has reported
+	late       []*writer            // commits in the slot's order that may still turn out to be somebody else's
+	others     claims               // those that did
+	apart      func(time.Time) bool // whether a proxy elsewhere may yet report what was committed by then; nil: there is none
+	owed       map[uint32]string    // why writes of folded transactions that the slot hasn't reported yet are left out, by number
 	unnumbered []unnumbered
 	expected   []expected
 	commits    uint64    // how many the slot has reported: the place of the last one

@@ -303,7 +303,7 @@ func (j *Joiner) begin(ctx context.Context) error {
 	j.core.inspects, j.core.database, j.core.slotted = j.inspects, j.started.Database, j.made
 	j.core.spare = j.inbox.spare
 	j.core.sought, j.core.opened = j.started.Asked, j.started.Opened
-	if its, is := j.meeter.(interface{ Apart() bool }); is {
+	if its, is := j.meeter.(interface{ Apart(time.Time) bool }); is {
 		j.core.apart = its.Apart
 	}
 	if before != nil {

@@ -83,7 +83,7 @@ func TestNobodyBypassesWhileOneIsAway(t *testing.T) {
 	for _, isApart := range []bool{false, true} {
 		b := newBench(t, Options{Sessions: 2, Late: time.Second})
 		b.connect(1)
-		b.core.apart = func() bool { return isApart }
+		b.core.apart = func(time.Time) bool { return isApart }
 		b.commit(1001, "a", "b", "c")
 		b.settle()
 		its := b.totals()

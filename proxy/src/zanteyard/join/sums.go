@@ -113,8 +113,8 @@ func (c *core) mayBeUnnumbered(w *writer) bool {
 	return false
 }
 
-// isApart reports whether a proxy elsewhere has yet to report what ended while it didn't feed the audit.
-func (c *core) isApart() bool { return c.apart != nil && c.apart() }
+// isApart reports whether a proxy elsewhere may yet report a commit: it doesn't feed the audit, or is late.
+func (c *core) isApart(w *writer) bool { return c.apart != nil && c.apart(c.began.Add(w.seen)) }
 
 // claims are the last commits that were counted without a session, by number.
 type claims struct {
@@ -177,7 +177,7 @@ func (c *core) unclaim(number uint64, reason string) (why string) {
 func (c *core) foldOther(w *writer) {
 	its := claim{writes: uint64(len(w.writes())), rows: w.rows(), bare: w.bare}
 	unnumbered := c.mayBeUnnumbered(w)
-	its.elsewhere = !unnumbered && !w.bare && c.isApart()
+	its.elsewhere = !unnumbered && !w.bare && c.isApart(w)
 	switch {
 	case unnumbered, its.elsewhere:
 		its.bare, its.unknown = false, true

@@ -69,6 +69,7 @@ type attached struct {
 	arrived     uint64
 	dropped     uint64
 	heard       time.Time
+	reported    time.Time         // what had ended there by then has arrived
 	connections map[uint64]uint64 // ours, by theirs
 	holds       uint64            // the last meeting for which it has held its clients
 }
@@ -224,7 +225,7 @@ func (h *Hub) greet(m *toHub, now time.Time) {
 	h.drop(a, m.Dropped)
 	h.epochs++
 	a.name, a.try, a.epoch, a.next, a.heard = its.Name, its.Try, h.epochs, 0, now
-	a.connections, a.holds = map[uint64]uint64{}, 0
+	a.connections, a.holds, a.reported = map[uint64]uint64{}, 0, time.Time{}
 	reply.Epoch = a.epoch
 	h.say(fromHub{Answer: &reply})
 	h.options.Log("the proxy " + a.name + " feeds this audit")
@@ -266,6 +267,9 @@ func (h *Hub) one(m *toHub, now time.Time) {
 		h.item(a, &m.Items[i], now)
 	}
 	a.received = m.Sent
+	if at := h.at(m.Tick, now); !at.IsZero() {
+		a.reported = at
+	}
 }
 
 func (h *Hub) drop(a *attached, dropped uint64) {

@@ -60,12 +60,13 @@ func (m *Meeter) Unaudited(connections []uint64) {
 // Remotes returns the state of the other proxies, for the joiner's coverage.
 func (m *Meeter) Remotes() join.Remotes { return m.hub.Remotes() }
 
-// Apart reports whether a proxy that has fed the audit within an hour doesn't at the moment.
-func (m *Meeter) Apart() bool {
+// Apart reports whether a proxy elsewhere may yet report what was committed by then: one that has fed the audit within an
+// hour and now doesn't, or whose later messages haven't arrived. These may also be lost.
+func (m *Meeter) Apart(committed time.Time) bool {
 	m.hub.lock.Lock()
 	defer m.hub.lock.Unlock()
 	for _, a := range m.hub.proxies {
-		if a.epoch == 0 {
+		if a.epoch == 0 || a.reported.Before(committed.Add(reporting)) {
 			return true
 		}
 	}

@@ -17,6 +17,7 @@ type toHub struct {
 	Number     uint64 // from 0 without gaps, in each attachment
 	Sent       uint64 // transactions in all of the proxy's messages up to this one
 	Dropped    uint64 // transactions that it had no room for
+	Tick       int64  // what had ended when this tick of the watch's arrived is in messages up to this one; 0 if unknown
 	Hello      *hello
 	Items      []item
 }

@@ -429,6 +429,9 @@ func (p *Post) message(alive bool) (m *toHub, more bool) {
 	p.items = p.items[n:]
 	p.bytes -= bytes
 	p.next++
+	if len(p.items) == 0 {
+		m.Tick = p.newest
+	}
 	for key, count := range p.unseen {
 		its := key
 		its.Count = count

@@ -21,13 +21,14 @@ import (
 )
 
 const (
-	protocol  = 3
+	protocol  = 4
 	every     = 20 * time.Millisecond // between two ticks, while proxies are attached
 	seldom    = 250 * time.Millisecond
 	again     = time.Second          // between two hellos
 	gather    = 2 * time.Millisecond // how long a proxy gathers what it sends
 	heartbeat = 500 * time.Millisecond
-	silence   = 3 * time.Second // after which the other side counts as gone
+	silence   = 3 * time.Second        // after which the other side counts as gone
+	reporting = 500 * time.Millisecond // for the answer to a COMMIT to reach a proxy, which then reports it
 	verifying = 10 * time.Second
 	patience  = 5 * time.Second // with Redis and with the server
 	backlog   = 4096            // how many messages may wait in a stream
