@@ -64,7 +64,7 @@ func TestTellsWhatIsReported(t *testing.T) {
 	}
 	p.one(context.Background(), &fromHub{Run: "r", Number: 1, Tick: 5}, true)
 	p.attach(&answer{Proxy: p.id, Epoch: 1, Mark: 7})
-	for i := 0; i < 1500; i++ {
+	for i := 0; i < 3*mostItems/2; i++ {
 		p.Transaction(record.Transaction{Number: uint64(i + 1)})
 	}
 	p.one(context.Background(), &fromHub{Run: "r", Number: 2, Tick: 9}, true)

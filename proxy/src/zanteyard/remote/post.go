@@ -415,7 +415,7 @@ func (p *Post) message(alive bool) (m *toHub, more bool) {
 		return nil, false
 	}
 	bytes, n := 0, 0
-	for ; n < len(p.items) && (n == 0 || bytes < mostBytes) && n < 1000; n++ {
+	for ; n < len(p.items) && (n == 0 || bytes < mostBytes) && n < mostItems; n++ {
 		if t := p.items[n].Transaction; t != nil {
 			bytes += sizeOf(&t.Its)
 			p.sent++

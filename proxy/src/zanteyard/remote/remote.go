@@ -32,7 +32,8 @@ const (
 	verifying = 10 * time.Second
 	patience  = 5 * time.Second // with Redis and with the server
 	backlog   = 4096            // how many messages may wait in a stream
-	mostBytes = 64 << 10        // of a message, unless one transaction is longer
+	mostBytes = 512 << 10       // of a message, unless one transaction is longer: the next one waits for Redis's answer
+	mostItems = 8000            // of a message
 	mostOfOne = 4 << 20         // bytes of one transaction
 	leastKey  = 16
 )
