@@ -64,6 +64,7 @@ class Outcome:
 
     @property
     def is_violated(self) -> bool:
+        """Whether a violation was found, be it of the collector's own transactions alone."""
         return self.kind in (Kind.VIOLATED, Kind.COLLECTOR)
 
     @property

@@ -51,6 +51,7 @@ class ForProcesses(LiveFigures):
 
     @property
     def audited_store(self) -> AuditedStore:
+        """The store that the run is about."""
         return self.auditor.audited_store
 
     # meetings

@@ -68,6 +68,7 @@ class Intake(Offers):
 
     @property
     def handed_in(self) -> int:
+        """How many transactions sessions have handed in, each counted once."""
         return sum(count for _, count in list(self._seen.values()))
 
     def miss(self, session: int, number: int, error: Exception) -> None:

@@ -32,6 +32,7 @@ class OwnTransactions:
     def run_alone(
         self, body: Callable[[Transaction], object], seconds: float, attempts: int = 3
     ) -> None:
+        """Runs a transaction of the collector's own. Raises what its last attempt raised."""
         ends = time.monotonic() + seconds
 
         def begin() -> Transaction:
@@ -41,6 +42,7 @@ class OwnTransactions:
         attempted(begin, body, attempts, ends)
 
     def fence(self, seconds: float = 60.0) -> None:
+        """Makes a fence, which reads from the last one."""
         self.run_alone(join_behind, seconds)
 
     def flag(self, seconds: float = 60.0) -> None:
@@ -51,12 +53,15 @@ class OwnTransactions:
         self.place.is_due, self.place.has_flag = False, True
 
     def read_all(self, keys: Sequence[str], seconds: float = 60.0) -> None:
+        """Reads these keys: their writers come before what the session does next."""
         self.run_alone(lambda transaction: transaction.get_all(keys), seconds)
 
     def write_mark(self, seconds: float = 60.0) -> None:
+        """Writes the mark, which the other sessions read in place of a second fence."""
         self.run_alone(lambda transaction: transaction.exchange(MARK, ""), seconds)
         self.place.is_due = self.place.has_flag = False
 
     def read_mark(self, seconds: float = 60.0) -> None:
+        """Reads the mark: the session comes after the fence before it."""
         self.run_alone(lambda transaction: transaction.get(MARK), seconds)
         self.place.is_due = self.place.has_flag = False

@@ -163,6 +163,8 @@ class Session(OwnTransactions):
                 give_back(self.turn, self.has_turn)
 
     def get_ready(self) -> None:
+        """Identifies the store, claims the run's name there, and joins or takes another place if
+        that is needed. Raises what the store raises."""
         self.identify_store()  # before anything is written there
         self.claim_name()  # before it joins, because the fence is written under this name
         self.go_on()
@@ -186,9 +188,11 @@ class Session(OwnTransactions):
             raise StoreLateError(f"session {self.number} waits for the store")
 
     def hang_up(self) -> None:
+        """Interrupts whatever waits for an answer over the store's connection. For any thread."""
         self.calls.hang_up()
 
     def has_waited(self, since: float) -> None:
+        """Counts that a transaction waited for the audit since this time of the monotonic clock."""
         waited, self.connecting = time.monotonic() - since - self.connecting, 0.0
         self.waited, self.longest = self.waited + waited, max(self.longest, waited)
 
@@ -206,6 +210,7 @@ class Session(OwnTransactions):
 
     @property
     def has_to_join(self) -> bool:
+        """Whether the session has a place, and has to join the audit by a fence first."""
         place = self.place
         if place is None or self.renew is None:  # its process has left
             return False
@@ -283,6 +288,7 @@ class Session(OwnTransactions):
             self.is_open, self.place.must_join = True, False
 
     def take_place(self) -> None:
+        """Takes another place from the auditor. Raises ValueError if there is none for good."""
         self.is_changing = False  # no meeting waits for a client that waits for a place
         place = self.renew(self) if self.renew is not None else None
         if place is not None:
@@ -447,6 +453,7 @@ class Session(OwnTransactions):
             self.has_waited(came)
 
     def fail(self, error: Exception) -> None:
+        """Notes why nothing more of this session is audited, and logs it; only the first time."""
         if self.failure is None:
             self.failure = error
             logger.error("auditing of session %s has stopped: %s", self.number, error)

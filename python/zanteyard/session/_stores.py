@@ -15,7 +15,7 @@ class Store(Protocol):
     AbortedError."""
 
     def begin(self) -> None:
-        ...
+        """Begins a transaction."""
 
     def read(self, key: str) -> StoredValue | None:
         """The value and the name that was stored with it; None if the key doesn't exist."""
@@ -27,7 +27,7 @@ class Store(Protocol):
         """Raises OutcomeUnknownError if no answer arrived."""
 
     def rollback(self) -> None:
-        ...
+        """Ends the transaction without an effect."""
 
     def outcome(self) -> str:
         """The outcome of the last transaction whose commit was sent and that had written:
@@ -38,10 +38,10 @@ class ConnectedStore(Store, Protocol):
     """A store that opens its connection by itself, and closes it at its end."""
 
     def connect(self) -> None:
-        ...
+        """Opens the connection."""
 
     def close(self) -> None:
-        ...
+        """Closes the connection."""
 
 
 class BoundedStore(Protocol):

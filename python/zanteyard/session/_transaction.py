@@ -318,6 +318,7 @@ class Transaction:
     def hand_in(
         self, reads: Iterable[Read], writes: Iterable[str], outcome: str, is_last: bool
     ) -> None:
+        """Hands in what the transaction did; with `is_last` nothing of its session follows."""
         number, auditor = self.session.number, self.session.auditor
         if self.prepared is not None and outcome == "committed":
             logged, packed = self.prepared
@@ -329,6 +330,7 @@ class Transaction:
             auditor.take(number, self.number, logged)
 
     def logged(self, reads: Iterable[Read], writes: Iterable[str], outcome: str) -> Logged:
+        """What the transaction did, as the auditor gets it."""
         is_told = outcome == "aborted" and self.session.unlooked is None
         tried_reads, tried_writes = self.undone() if is_told else ([], [])
         statements = tuple(self.statements.items())

@@ -111,6 +111,7 @@ def named(table: str) -> Sequence[str | None]:
 
 
 def close_opened(late: Any) -> None:
+    """Closes a connection that was opened too late for whoever wanted it."""
     if late is not None:
         close_connection(late[0])
 
@@ -186,6 +187,7 @@ class MariaDBStore:
             raise
 
     def identity_at(self, connection: Any) -> StoreIdentity | None:
+        """The identity of the store behind this connection; None if unknown."""
         schema, name = named(self.table)
         cursor = connection.cursor()
         try:
@@ -205,6 +207,7 @@ class MariaDBStore:
         return StoreIdentity(known, f"table {called} of the MariaDB at {host} (store {token})")
 
     def connected(self, seconds: float) -> Any:
+        """A new connection, made within this many seconds."""
         limits = {"connect_timeout": max(1, math.ceil(seconds))}
         dsn: dict[str, Any] = {"charset": "utf8mb4", **limits, **self.dsn, "autocommit": True}
         connection = pymysql.connect(**dsn)
@@ -220,6 +223,7 @@ class MariaDBStore:
 
     @property
     def is_connected(self) -> bool:
+        """Whether a connection is open."""
         return self.connection is not None and bool(self.connection.open)
 
     @property
@@ -233,6 +237,7 @@ class MariaDBStore:
 
     @staticmethod
     def is_broken_at(connection: Any, error: BaseException) -> bool:
+        """Whether this error means that the connection can't be used any more."""
         lost = isinstance(error, pymysql.InterfaceError) or code_of(error) in CLIENT_ERRORS
         return lost or connection is None or not connection.open
 
@@ -246,6 +251,7 @@ class MariaDBStore:
         return cursor
 
     def ask(self, text: str, values: Sequence[object] = ()) -> Any:
+        """The rows of a statement. Raises what `raise_what_it_means` raises."""
         if not self.is_alone:
             self.still_open()
         try:
@@ -270,6 +276,7 @@ class MariaDBStore:
             self.connection._read_timeout = self.usual
 
     def raise_what_it_means(self, error: pymysql.MySQLError) -> None:
+        """Raises AbortedError or OutcomeUnknownError, if that is what the error means."""
         message = f"{' '.join(map(str, error.args))}".strip()
         if self.is_alone and self.is_broken(error):
             raise OutcomeUnknownError(message) from error
@@ -373,6 +380,7 @@ class MariaDBStore:
             raise  # the server has answered: it is aborted
 
     def send_commit(self) -> None:
+        """Sends the commit, and waits for its answer."""
         self.send("COMMIT")
 
     def rollback(self) -> None:

@@ -34,6 +34,7 @@ class MemoryStore:
         self.identity = StoreIdentity(f"memory {token}", f"the in-memory store {token}")
 
     def connect(self) -> Connection:
+        """A connection, for one client."""
         return Connection(self)
 
     def newest(self, key: str, moment: int) -> int:
@@ -80,10 +81,13 @@ class Connection:
         self.go()
 
     def go(self) -> None:
+        """Waits for a random time of up to `takes` seconds."""
         if self.shared.takes:
             time.sleep(random.uniform(0.0, self.shared.takes))
 
     def decide(self) -> None:
+        """Ends the transaction: raises AbortedError if it can't commit, and OutcomeUnknownError if
+        tests want no answer."""
         shared = self.shared
         changed = {key for key, at in self.seen.items() if at != shared.newest(key, shared.moment)}
         if shared.fault in ("lost-update", "torn-read"):
@@ -111,6 +115,7 @@ class Connection:
         self.last_outcome = outcome
 
     def install(self) -> None:
+        """Makes the transaction's writes the newest versions."""
         with self.shared.lock:
             for key, (value, name) in self.writes.items():
                 version = (value, name, self.shared.moment + 1)

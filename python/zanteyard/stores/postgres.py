@@ -216,6 +216,7 @@ class PostgresStore:
         return cursor
 
     def ask(self, text: str, values: Sequence[object] = (), is_reading: bool = False) -> Any:
+        """The rows of a statement. Raises AbortedError if the server has ended the transaction."""
         before, self.before = self.before, "" if not self.is_alone else self.before
         if is_reading and self.is_alone and self.level == "serializable":
             before = READING + before
@@ -303,6 +304,7 @@ class PostgresStore:
         return error.pgcode[:2] not in ("08", "57") and error.pgcode != "40003"
 
     def send_commit(self) -> None:
+        """Sends the commit, and waits for its answer."""
         if self.is_alone or self.before:
             return  # nothing is open
         if self.send("COMMIT").statusmessage != "COMMIT":  # a statement of it has failed
@@ -371,6 +373,7 @@ class PostgresStore:
             raise NameTakenError(f"{self.table} has the name {run_name} from an earlier run")
 
     def owner(self, key: str, token: str, run_name: str) -> str:
+        """The token of the run that has the name; a new name is given to this one."""
         for _ in range(ATTEMPTS):
             row = self.ask(CLAIM, (key, token, run_name, -1, 0, key)).fetchone()
             if row is not None:

@@ -122,6 +122,7 @@ class RedisStore:
 
     def connected(self, seconds: float) -> Any:
         # Bytes that aren't UTF-8, which another program may have written, become a text, too.
+        """A new connection, made within this many seconds."""
         more: dict[str, Any] = {"decode_responses": True, "encoding_errors": "surrogateescape"}
         return connected(self.url, seconds, **more)
 
@@ -151,6 +152,7 @@ class RedisStore:
         return self._identity
 
     def see_that_nothing_is_dropped(self, text: Any) -> None:
+        """Raises StoreUnfitError if the server may drop keys to make room."""
         if not isinstance(text, str):
             logger.warning("can't see whether this Redis evicts keys: %s", text)
             return
@@ -177,6 +179,7 @@ class RedisStore:
             raise
 
     def told(self, *commands: Command) -> None:
+        """Keeps the text of these commands, to be shown with a violation."""
         self.statement = "; ".join(map(shown, commands))
 
     # what sessions call
@@ -197,6 +200,7 @@ class RedisStore:
         self.sent_in_time(("UNWATCH",), ("WATCH", self.own))
 
     def get_ready(self, seconds: float | None = None) -> None:
+        """Connects, if necessary, within this many seconds, for a transaction."""
         if self.is_hung_up:
             self.close()
         if self.connection is None:
@@ -305,6 +309,7 @@ class RedisStore:
         return found_in(text)
 
     def exchanged_alone(self, command: Command) -> StoredValue | None:
+        """What an exchange without a transaction returned."""
         try:
             self.watch_own()
         except BROKEN as error:
@@ -327,6 +332,7 @@ class RedisStore:
                 raise AbortedError(str(error)) from error  # nothing was done
 
     def compare(self) -> None:
+        """Raises AbortedError if something that was read has changed since."""
         keys = [
             key
             for key in self.seen
@@ -357,6 +363,7 @@ class RedisStore:
         return list(answers)
 
     def send_exec(self, commands: Sequence[Command]) -> Any:
+        """Sends the transaction's commands, and waits for their answers."""
         return self.sent_in_time(*commands)[-1]
 
     def rollback(self) -> None:

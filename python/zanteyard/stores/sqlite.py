@@ -42,6 +42,7 @@ ABORTED = "aborted"  # the value there after somebody has asked; NULL otherwise
 
 
 def quoted(table: str) -> str:
+    """The table's name as SQL has it."""
     return '"' + table.replace('"', '""') + '"'
 
 
@@ -116,6 +117,7 @@ class SQLiteStore:
         return StoreIdentity(f"sqlite {where} {self.table}", shown)
 
     def connected(self) -> Any:
+        """A new connection to the file."""
         more: dict[str, Any] = {"isolation_level": None, "check_same_thread": False}
         more["timeout"] = self.waits = self.patience
         if self.level != UNCOMMITTED:
@@ -126,6 +128,7 @@ class SQLiteStore:
         return connection
 
     def wait_for_locks(self, seconds: float) -> None:
+        """Has SQLite wait at most this many seconds for a lock."""
         if seconds != self.waits:
             self.connection.execute(f"PRAGMA busy_timeout = {int(1000 * seconds)}")
             self.waits = seconds
@@ -144,6 +147,7 @@ class SQLiteStore:
         return cursor
 
     def ask(self, text: str, values: Sequence[object] = (), **more: str) -> Any:
+        """The rows of a statement. Raises AbortedError if SQLite has ended the transaction."""
         if self.has_failed:
             raise AbortedError("the transaction had failed before")
         if not (self.is_alone or self.level == AUTOCOMMIT or self.connection.in_transaction):
@@ -161,6 +165,7 @@ class SQLiteStore:
             self.start(self.level == IMMEDIATE, self.patience)
 
     def get_ready(self, waits: float) -> None:
+        """Connects, if necessary, for a transaction whose locks may take so many seconds."""
         if self.connection is None:
             self.connect()
         self.rollback()
@@ -255,6 +260,7 @@ class SQLiteStore:
             raise OutcomeUnknownError(str(error)) from error
 
     def send_commit(self) -> None:
+        """Sends the commit, and waits for its answer."""
         self.send("COMMIT")
 
     def rollback(self) -> None:
