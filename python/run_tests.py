@@ -107,6 +107,9 @@ def main() -> int:
         print("pytest and pytest-xdist aren't both installed: unittest runs the tests, one by one")
         which = asked.modules or ["discover", "-t", ".", "-s", "tests"]
         os.chdir(HERE)
+        rooms = ("model", "check", "cost")  # as in pyproject.toml, for pytest
+        paths = [os.path.join(HERE, "../bench", room) for room in rooms]
+        os.environ["PYTHONPATH"] = os.pathsep.join([*paths, os.environ.get("PYTHONPATH", "")])
         sys.stdout.flush()
         os.execv(sys.executable, [sys.executable, "-X", "faulthandler", "-m", "unittest", *which])
     paths = [

@@ -1,4 +1,4 @@
-"""A made-up program: `cobra_audit` as the plain model of bench/judge.py defines it, for small
+"""A made-up program: `cobra_audit` as the plain model of bench/model/judge.py defines it, for small
 histories and for behaviour that the real program shows only sometimes.
 
     python3 made_up_programs.py SETTINGS
@@ -16,7 +16,7 @@ import stat
 import sys
 import time
 
-sys.path.insert(0, os.path.join(os.path.dirname(os.path.abspath(__file__)), "../../bench"))
+sys.path.insert(0, os.path.join(os.path.dirname(os.path.abspath(__file__)), "../../bench/model"))
 from judge import Model, OK, REFUSALS, SEARCHING, command_of, text  # noqa: E402
 from plain_verdicts import Relation, cut_of, has_order  # noqa: E402
 

@@ -13,7 +13,7 @@ import os
 import sys
 
 TOP = os.path.normpath(os.path.join(os.path.dirname(os.path.abspath(__file__)), "../.."))
-sys.path.insert(0, os.path.join(TOP, "bench"))
+sys.path.insert(0, os.path.join(TOP, "bench/model"))
 from judge import Model, command_of, text  # noqa: E402
 from plain_trees import refuted  # noqa: E402
 from plain_verdicts import INIT, Relation, cut_of  # noqa: E402

@@ -29,7 +29,7 @@ PROGRAM = path_of("cobra_audit")
 WANTED = 500  # violations that are generated
 FOLDERS = ("examples/promises", "crates/cobra_examples/data")  # of worked scripts
 SMALL = 24  # transactions of a violation for which all promises are asked
-# Recorded by bench/field.py at PostgreSQL's repeatable read, and made small.
+# Recorded by bench/cost/field.py at PostgreSQL's repeatable read, and made small.
 FIVE = """\
 ["open",4,8]
 ["offer",0,0,[[[],[43]]]]

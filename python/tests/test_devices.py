@@ -1,16 +1,14 @@
 """The programs from outside with failing devices and refused memory: the bounded part of what
-bench/failing_devices.py and bench/refused_memory.py try. Needs a C compiler."""
+bench/check/failing_devices.py and bench/check/refused_memory.py try. Needs a C compiler."""
 import os
-import sys
 import tempfile
 import unittest
 
 from .built import TOP, WORKED, path_of
 
-sys.path.append(os.path.join(TOP, "bench"))
 
-import failing_devices  # noqa: E402
-import refused_memory  # noqa: E402
+import failing_devices
+import refused_memory
 
 refused_memory.PROGRAMS.update((name, path_of(name)) for name in failing_devices.NAMES)
 

@@ -136,7 +136,7 @@ class Documents(unittest.TestCase):
     def test_what_is_there_is_named(self):
         """Benchmarks, packages, the purpose of each module, and the number of edits."""
         text = text_of("CONTRIBUTING.md")
-        for path in glob.glob(os.path.join(TOP, "bench/*.py")):
+        for path in glob.glob(os.path.join(TOP, "bench/*/*.py")):
             with self.subTest(path=path):
                 self.assertTrue(re.search(rf"[`/]{re.escape(os.path.basename(path))}\b", text))
         text = text_of("python/README.md")

@@ -142,7 +142,7 @@ class Examples(unittest.TestCase):
         self.postgres_is_there()
         for is_made in (False, True):
             with self.subTest(is_made=is_made):
-                running = self.begin("../bench/kills.py", "tests.test_killed.KilledOverPostgres")
+                running = self.begin("../bench/check/kills.py", "tests.test_killed.KilledOverPostgres")
                 self.addCleanup(running.kill)
                 while not (self.is_served() if is_made else self.of_folder()):
                     self.assertIsNone(running.poll())

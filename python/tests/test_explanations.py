@@ -5,7 +5,6 @@ import itertools
 import json
 import os
 import random
-import sys
 import unittest
 from unittest import mock
 
@@ -23,8 +22,7 @@ from .built import TOP, path_of
 from .killing import PLAIN
 from .plain_explanations import Check, Wrong
 
-sys.path.append(os.path.join(TOP, "bench"))
-import hard  # noqa: E402
+import hard
 
 PROGRAMS = [PLAIN, *filter(None, [path_of("cobra_audit")])]
 SEEDS = 12

@@ -1,4 +1,4 @@
-"""bench/field.py: the shapes of its workloads, files and scripts of recorded histories, its peer
+"""bench/cost/field.py: the shapes of its workloads, files and scripts of recorded histories, its peer
 beside the plain definition, its table, and a small recorded run."""
 import collections
 import contextlib
@@ -20,12 +20,11 @@ from zanteyard.program._auditor import PROGRAM
 from zanteyard.trial.postgres_server import program
 
 TOP = os.path.normpath(os.path.join(os.path.dirname(os.path.abspath(__file__)), "../.."))
-sys.path.append(os.path.join(TOP, "bench"))
-import field  # noqa: E402
-import histories  # noqa: E402
-from field_histories import FENCE, History, HistoryError, Record, keep, kept, script  # noqa: E402
-from field_histories import Attempt, SerialStore  # noqa: E402
-from field_workloads import ListAppend, SESSIONS, Tpcc, WORKLOADS, dealt  # noqa: E402
+import field
+import histories
+from field_histories import FENCE, History, HistoryError, Record, keep, kept, script
+from field_histories import Attempt, SerialStore
+from field_workloads import ListAppend, SESSIONS, Tpcc, WORKLOADS, dealt
 
 HAS_COMPILER = any(map(shutil.which, field.COMPILERS))
 HAS_CLASP = bool(shutil.which("clasp"))
@@ -488,7 +487,7 @@ class Recorded(unittest.TestCase):
 
     def begin(self, *words):
         return subprocess.Popen(
-            [sys.executable, f"{TOP}/bench/field.py", *words],
+            [sys.executable, f"{TOP}/bench/cost/field.py", *words],
             env={**os.environ, "TMPDIR": f"{self.folder}/tmp", "COBRA_AUDIT": PROGRAM},
             stdout=subprocess.PIPE, stderr=subprocess.PIPE, text=True,
         )

@@ -1,4 +1,4 @@
-"""The auditor and a plain model of it, with the input of bench/fuzz.py, for a minute; and lies
+"""The auditor and a plain model of it, with the input of bench/check/fuzz.py, for a minute; and lies
 between the auditor and the model, each of which has to be found."""
 import json
 import multiprocessing
@@ -16,14 +16,13 @@ from .waiting import wait_until
 
 TOP = os.path.normpath(os.path.join(os.path.dirname(os.path.abspath(__file__)), "../.."))
 WORKED = os.path.join(TOP, "crates/cobra_examples/data")
-sys.path.append(os.path.join(TOP, "bench"))
 
-import fuzz  # noqa: E402
-import judge  # noqa: E402
-from plain_proofs import check_tree  # noqa: E402
-from plain_verdicts import Wrong  # noqa: E402
+import fuzz
+import judge
+from plain_proofs import check_tree
+from plain_verdicts import Wrong
 
-LINES, SECONDS = 300000, 60.0  # tried at most; bench/fuzz.py tries more
+LINES, SECONDS = 300000, 60.0  # tried at most; bench/check/fuzz.py tries more
 SEED = 3
 FOUND = 1500  # lines within which each lie about replies is found
 SCRIPTS = 4  # times as many for lies about lines: some need a script of a certain version

@@ -2,17 +2,15 @@
 import json
 import os
 import subprocess
-import sys
 import unittest
 
 from .built import TOP, by_turns, path_of
 
-sys.path.append(os.path.join(TOP, "bench"))
-import fuzz_check  # noqa: E402
-import worst  # noqa: E402
-from judge import REFUSALS, Model, first_difference, txn_of  # noqa: E402
-from plain_proofs import check_order  # noqa: E402
-from plain_verdicts import SPENT, Parts, Relation, cubes, scan  # noqa: E402
+import fuzz_check
+import worst
+from judge import REFUSALS, Model, first_difference, txn_of
+from plain_proofs import check_order
+from plain_verdicts import SPENT, Parts, Relation, cubes, scan
 
 SECONDS = 300.0
 OK = b'["ok"]'
@@ -261,7 +259,7 @@ class Forged(unittest.TestCase):
                                         b"spent 0 not-checked 0\n"))
 
     def test_mutated_bytes_of_stored_replies(self):
-        """As in bench/fuzz_check.py: accepted exactly if the plain model accepts them."""
+        """As in bench/check/fuzz_check.py: accepted exactly if the plain model accepts them."""
         fuzz_check.PROGRAM = path_of("cobra_check")
         tried = fuzz_check.fuzz("rows", 150)
         self.assertGreater(sum(count for (_, told), count in tried.items() if told == "wrong"), 50)
@@ -269,7 +267,7 @@ class Forged(unittest.TestCase):
 
     def test_want_of_memory_is_believed_of_what_may_want_memory(self):
         """NoMemory is accepted only for lines that may run out of memory, by the checker and by the
-        model to which bench/fuzz_check.py compares it."""
+        model to which bench/check/fuzz_check.py compares it."""
         opening = b'["open",1,4]'
         rows = {
             True: (b'["offer",0,0,[[[],[5]]]]', b'["join",1,[[[[0,"init"]],[0]]]]', b'["begin"]',

@@ -1,10 +1,9 @@
 """Scripts that request snapshot isolation themselves: the program's replies are compared with the
-definition, tried over all orders, and with the plain model of bench/judge.py."""
+definition, tried over all orders, and with the plain model of bench/model/judge.py."""
 import json
 import os
 import random
 import subprocess
-import sys
 import unittest
 from collections import Counter
 from concurrent.futures import ThreadPoolExecutor
@@ -14,8 +13,7 @@ from zanteyard.program._binaries import checker_path
 
 from .plain_promises import COMMITTED, did, generated, has_events, ids_of, is_pending, script_of
 
-sys.path.append(os.path.join(os.path.dirname(os.path.abspath(__file__)), "../../bench"))
-import judge  # noqa: E402
+import judge
 
 HISTORIES = int(os.environ.get("ZANTEYARD_HISTORIES", "500"))
 ROUND = ["round", 4096, 0, 1]

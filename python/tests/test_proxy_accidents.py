@@ -1,5 +1,5 @@
-"""What clients see of accidents, with and without the proxy: a row of each kind of bench/proxy_matrix.py, and a short
-run of each kind of bench/proxy_load.py. By hand both run for longer, with all drivers."""
+"""What clients see of accidents, with and without the proxy: a row of each kind of bench/check/proxy_matrix.py, and a short
+run of each kind of bench/check/proxy_load.py. By hand both run for longer, with all drivers."""
 
 import importlib.util
 import os
@@ -50,7 +50,7 @@ class Accidents(unittest.TestCase):
         asked = [each for each in ACCIDENTS if shutil.which(NEEDS.get(each, "openssl"))]
         # A second is the promise; on a machine that is busy with other tests an answer may take longer by chance.
         out = self.run_bench(
-            "proxy_matrix.py", "--drivers", DRIVERS, "--only", ",".join(asked), "--close", "10"
+            "check/proxy_matrix.py", "--drivers", DRIVERS, "--only", ",".join(asked), "--close", "10"
         )
         self.assertIn(f"2 drivers, {len(asked)} accidents, 0 cells that differ", out)
         for each in asked:
@@ -58,7 +58,7 @@ class Accidents(unittest.TestCase):
 
     def test_each_strain(self):
         out = self.run_bench(
-            "proxy_load.py", "--seconds", "3", "--rate", "20", "--mebibytes", "32", "--inserts", "2", "--patience",
+            "check/proxy_load.py", "--seconds", "3", "--rate", "20", "--mebibytes", "32", "--inserts", "2", "--patience",
             "30",
         )
         self.assertIn("churn, proxy: 60 connections", out)

@@ -8,7 +8,6 @@ import logging
 import os
 import random
 import subprocess
-import sys
 import tempfile
 import threading
 import time
@@ -28,10 +27,9 @@ from .built import path_of
 from .killing import BEFORE, MOMENTS, Killer
 from .made_up_programs import made_up
 
-sys.path.insert(0, os.path.join(os.path.dirname(os.path.abspath(__file__)), "../../bench"))
-from fuzz_lines import Store  # noqa: E402
-from joins import verdict_of  # noqa: E402
-from judge import effect_of  # noqa: E402
+from fuzz_lines import Store
+from joins import verdict_of
+from judge import effect_of
 
 RUNS = int(os.environ.get("ZANTEYARD_RUNS", "40"))
 SECONDS = 300.0

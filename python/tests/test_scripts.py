@@ -20,8 +20,8 @@ from zanteyard.explain._shrinking import is_violated
 from zanteyard.promises._kinds import SERIALIZABLE, SNAPSHOT
 
 from .plain_auditor import Plain  # this import also makes bench importable
-from fuzz_lines import Scripts as Generator  # noqa: E402
-from plain_snapshots import is_proper  # noqa: E402
+from fuzz_lines import Scripts as Generator
+from plain_snapshots import is_proper
 
 TOP = os.path.normpath(os.path.join(os.path.dirname(os.path.abspath(__file__)), "../.."))
 WORKED = os.path.join(TOP, "crates/cobra_examples/data")

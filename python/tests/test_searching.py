@@ -1,18 +1,15 @@
 """A search during a script of `cobra_audit`: lines are answered while it goes on, and it ends when
 it is told to. No proof says how long anything takes (docs/PROVED.md)."""
 import json
-import os
 import subprocess
-import sys
 import threading
 import time
 import unittest
 
 from .built import path_of
 
-sys.path.append(os.path.join(os.path.dirname(os.path.abspath(__file__)), "../../bench"))
-import hard  # noqa: E402
-from judge import Model  # noqa: E402
+import hard
+from judge import Model
 
 # Each search here takes hours, so these limits distinguish it from a delay, even on a busy machine.
 SOON = 60.0  # seconds for a search to end when it is given up: it checks at each node

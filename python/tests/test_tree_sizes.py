@@ -1,18 +1,16 @@
 """The sizes of the trees of twelve known histories: each is as small as a plain minimiser can make
-it, and irrelevant transactions don't make it larger (bench/plain_trees.py)."""
+it, and irrelevant transactions don't make it larger (bench/model/plain_trees.py)."""
 import json
 import os
-import sys
 import unittest
 
 from .built import TOP, WORKED, path_of
 from .test_hostile_rows import replies_to
 
-sys.path.append(os.path.join(TOP, "bench"))
-import hard  # noqa: E402
-from judge import Model, command_of  # noqa: E402
-from plain_trees import minimised, refuted  # noqa: E402
-from plain_verdicts import Wrong  # noqa: E402
+import hard
+from judge import Model, command_of
+from plain_trees import minimised, refuted
+from plain_verdicts import Wrong
 
 
 def compact(told):

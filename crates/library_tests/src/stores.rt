@@ -250,7 +250,7 @@ fn last_reads(
     reads_at_last(rt, alloc, &mut store, row.last)
 }
 
-/// `bench/refused_memory.py` also runs this and the next with each allocation refused in turn. A request that was refused memory is then executed
+/// `bench/check/refused_memory.py` also runs this and the next with each allocation refused in turn. A request that was refused memory is then executed
 /// as ever, once it is asked again. The gate refuses none.
 #[test]
 fn a_fault_acts_once_where_it_applies(rt: HostRuntime) -> Result<(), Fail> {

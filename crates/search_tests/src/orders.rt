@@ -103,7 +103,7 @@ fn answers(rt: &impl Abort, alloc: Global, row: &Row) {
     assert_eq!(rt; second.unwrap_or(row.kind), row.kind);
 }
 
-/// The gate refuses no memory: `bench/refused_memory.py` runs this with each allocation refused in turn.
+/// The gate refuses no memory: `bench/check/refused_memory.py` runs this with each allocation refused in turn.
 #[test]
 fn refused_memory_changes_no_answer(rt: HostRuntime) {
     for row in rows() {

@@ -570,7 +570,7 @@ fn answers_at_last(rt: &impl Abort, alloc: Global, row: &Row) {
     }
 }
 
-/// The gate refuses no memory: `bench/refused_memory.py` runs this with each allocation refused in turn.
+/// The gate refuses no memory: `bench/check/refused_memory.py` runs this with each allocation refused in turn.
 #[test]
 fn refused_memory_changes_no_answer_of_a_search(rt: HostRuntime) {
     for row in rows() {
