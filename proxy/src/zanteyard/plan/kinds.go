@@ -281,6 +281,7 @@ func (m *maker) calls(p *Plan, value any) {
 			p.MayWriteUnseen = p.MayWriteUnseen || f.Writes
 			p.ChangesNames = p.ChangesNames || f.Names
 			p.Calls = p.Calls || f.Made
+			p.Volatile = p.Volatile || !m.catalog.Steady(schema, name[len(name)-1])
 			if name[len(name)-1] == "set_config" && !f.Made {
 				m.configs = append(m.configs, m.nameOf(body))
 			} else {
@@ -294,7 +295,7 @@ func (m *maker) calls(p *Plan, value any) {
 			name := names(body.list("name"))
 			if len(name) > 0 && !m.catalog.PureOperator(name[len(name)-1]) {
 				p.leaveOut(aFunctionReads)
-				p.MayWriteUnseen, p.Calls = true, true
+				p.MayWriteUnseen, p.Calls, p.Volatile = true, true, true
 			}
 		}
 		return true

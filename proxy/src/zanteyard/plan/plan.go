@@ -131,6 +131,9 @@ type Plan struct {
 	// Calls means that the statement calls a function or an operator that isn't the server's own, and may do more than
 	// compute a value.
 	Calls bool
+	// Volatile means that a function or an operator in the statement may do more than compute a value from the snapshot, which
+	// may outlast a rollback: take a number of a sequence or a lock of the session.
+	Volatile bool
 	// Foreign means that the statement may run what others have made, which may run any statement: functions that aren't
 	// the server's own or written in C, also those of triggers, views, policies, defaults and the like. FETCH and EXECUTE
 	// may, if what they run does.

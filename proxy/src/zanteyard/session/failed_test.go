@@ -6,6 +6,7 @@ import (
 	"time"
 
 	"zanteyard/definitions"
+	"zanteyard/wire"
 )
 
 // TestFailedInABlock: a statement whose hidden columns may not be read any more, which the proxy hasn't noticed, fails in one
@@ -65,6 +66,57 @@ func TestFailsOnce(t *testing.T) {
 		}
 		if after := show(direct(t, "postgres").query("SELECT last_value + 0 FROM calls")); after != before {
 			t.Errorf("%s: it ran more than once: %s, and not %s", text, after, before)
+		}
+	}
+}
+
+// TestDoneOnce: a statement fails when it runs, with an error that hidden columns could cause, too. What it had done by then
+// isn't done once more: a number of a sequence and a session's lock outlast the rollback.
+func TestDoneOnce(t *testing.T) {
+	needServer(t)
+	sql(t, fill)
+	sql(t, "DROP TABLE IF EXISTS numbered; CREATE TABLE numbered (id serial PRIMARY KEY, x text)")
+	defer sql(t, "DROP TABLE numbered")
+	const mayFail = "repeat('x', current_setting('my.n')::int)"
+	p := through(t, "postgres", knowing(t))
+	field := func(text string) string {
+		for _, m := range p.query(text) {
+			if m[0] == 'D' {
+				return string(m[wire.Header+6:])
+			}
+		}
+		return ""
+	}
+	for _, x := range []struct {
+		text, number string
+		locks        int
+	}{
+		{"INSERT INTO numbered (x) VALUES (" + mayFail + ")", "101", 0},
+		{"SELECT pg_advisory_lock(id), " + mayFail + " FROM t WHERE id = 3", "100", 1},
+		{"UPDATE t SET v = v WHERE id = 3 AND pg_try_advisory_lock(id) AND repeat(" +
+			"'x', id + current_setting('my.n')::int) <> ''", "100", 1},
+	} {
+		p.query("SET my.n = 1")
+		p.warm(x.text)
+		p.sink.take()
+		if p.query(x.text); !p.sink.reports() {
+			t.Fatalf("%s isn't seen: %q", x.text, p.sink.unseen)
+		}
+		for _, text := range []string{"SELECT pg_advisory_unlock_all()", "SET my.n = 2000000000", "SELECT setval('numbered_id_seq', 100)"} {
+			p.query(text)
+		}
+		if got := p.query(x.text); len(got) < 2 || string(wire.Field(got[len(got)-2], 'C')) != "54000" {
+			t.Errorf("%s: %s", x.text, show(got))
+		}
+		if number := field("SELECT last_value FROM numbered_id_seq"); number != x.number {
+			t.Errorf("%s: the sequence is at %s, and not at %s", x.text, number, x.number)
+		}
+		locks := 0
+		for field("SELECT pg_advisory_unlock(3)") == "t" {
+			locks++
+		}
+		if locks != x.locks {
+			t.Errorf("%s: the lock was taken %d times, and not %d", x.text, locks, x.locks)
 		}
 	}
 }

@@ -3,6 +3,7 @@ package session
 import (
 	"bytes"
 
+	"zanteyard/plan"
 	"zanteyard/wire"
 )
 
@@ -54,7 +55,7 @@ func (s *Session) again(e *expectation, m []byte) bool {
 		s.options.Shared.drop(s.trust.signature, u.plan)
 	}
 	r := &s.replay
-	if !r.valid || r.given || s.partial || s.open || s.status != 'I' {
+	if !r.valid || r.given || s.partial || s.open || s.status != 'I' || !isUndone(e.current(), m) {
 		return false
 	}
 	for i := s.queue.head; i < len(s.queue.list)-1; i++ {
@@ -84,6 +85,33 @@ func rewriting(m []byte) bool {
 		}
 	}
 	return false
+}
+
+// isUndone reports whether an error has surely undone all that its statement did. A rollback doesn't give the numbers of a
+// sequence back, nor a session's lock: so either the statement can't do more than read, or the error came before it ran.
+func isUndone(p *plan.Plan, m []byte) bool {
+	if p != nil && p.Kind == plan.Select && !p.Volatile && !p.Calls && !p.MayWriteUnseen && len(p.Unseen) == 0 {
+		return true
+	}
+	return beforeItRuns[string(wire.Field(m, 'R'))]
+}
+
+// beforeItRuns are the server's routines that refuse a statement by its names, types and rights, when it is analysed or
+// prepared to run.
+var beforeItRuns = map[string]bool{
+	"FetchPreparedStatement":  true, // a twin that is missing
+	"exec_bind_message":       true,
+	"RevalidateCachedQuery":   true, // its result has other columns by now
+	"aclcheck_error":          true,
+	"errorMissingColumn":      true,
+	"errorMissingRTE":         true,
+	"parserOpenTable":         true,
+	"scanRTEForColumn":        true, // a name with several meanings
+	"scanNSItemForColumn":     true,
+	"colNameToVar":            true,
+	"scanNameSpaceForRefname": true,
+	"ParseFuncOrColumn":       true,
+	"op_error":                true,
 }
 
 // sendAgain sends the client's own messages. While the replay is running, nobody else writes to the server.
