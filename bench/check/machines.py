@@ -1,7 +1,7 @@
 """One audit of applications on several machines, each with a proxy, a Redis between them, and a
 network with delays.
 
-    python3 bench/machines.py [--delay MS ..] [--seconds N] [--clients N] [--rate N] [--rows N]
+    python3 bench/check/machines.py [--delay MS ..] [--seconds N] [--clients N] [--rate N] [--rows N]
         [--look-share PERCENT] [--every S] [--kill {proxy,redis,watch} ..] [--kill-every S] [--plant]
         [--at-least PERCENT]
 
@@ -48,7 +48,7 @@ import urllib.request
 from collections.abc import Iterator
 from typing import Any
 
-TOP = os.path.join(os.path.dirname(os.path.abspath(__file__)), "..")
+TOP = os.path.join(os.path.dirname(os.path.abspath(__file__)), "../..")
 sys.path[:0] = [os.path.join(TOP, "python"), os.path.join(TOP, "python/tests")]
 
 import psycopg2
@@ -445,7 +445,7 @@ def everything(asked: Any, folder: str) -> Iterator[World]:
     if proxy is None:
         raise SystemExit("Go or its libraries are missing")
     wire = os.path.join(folder, "wire")
-    run(shutil.which("cc") or "gcc", "-O2", "-o", wire, os.path.join(TOP, "bench/machines_wire.c"))
+    run(shutil.which("cc") or "gcc", "-O2", "-o", wire, os.path.join(TOP, "bench/check/machines_wire.c"))
     machines: list[Machine] = []
     server = Server(os.path.join(folder, "server"))
     world: World | None = None

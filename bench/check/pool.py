@@ -1,6 +1,6 @@
 """Whether the connections of a pool that work get the audit's sessions.
 
-    python3 bench/pool.py [--connections N] [--busy N] [--seconds S] [--pause MS] [--same]
+    python3 bench/check/pool.py [--connections N] [--busy N] [--seconds S] [--pause MS] [--same]
 
 A pool has --connections (500), of which --busy (50) work at any time: each works for about a second,
 with a SELECT and an UPDATE by turns, each a transaction, and a pause of --pause milliseconds (20)
@@ -30,7 +30,7 @@ import time
 import urllib.request
 from typing import Any
 
-TOP = os.path.join(os.path.dirname(os.path.abspath(__file__)), "..")
+TOP = os.path.join(os.path.dirname(os.path.abspath(__file__)), "../..")
 sys.path[:0] = [os.path.join(TOP, "python"), os.path.join(TOP, "python/tests")]
 
 import psycopg2
