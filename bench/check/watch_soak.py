@@ -1,13 +1,16 @@
 """Watches applications of a PostgreSQL for as long as you like, while they are disturbed.
 
     python3 bench/check/watch_soak.py [--minutes M] [--level LEVEL] [--work NAME ..] [--clients N]
-        [--pause MS] [--rate N] [--undisturbed] [--kill-server S] [--kill-proxy S] [--promise NAME]
+        [--pause MS] [--rate N] [--come N] [--undisturbed] [--kill-server S] [--kill-proxy S]
+        [--promise NAME] [--flat]
 
 Each work is an application with tables of its own: `skew` reads two rows and writes one, `lost`
 reads a quantity and writes it one less, `bank` keeps a rule over a range, `shop` has joins,
-upserts, counts, savepoints, cursors and deletes, `tpcb`, `update` and `select` are pgbench's. All
-run at once, with --clients connections each, and a pause of up to --pause milliseconds after each
-transaction; each pgbench makes --rate transactions per second.
+upserts, counts, savepoints, cursors and deletes, `tpcb`, `update` and `select` are pgbench's, and
+`scratch` uses temporary tables, which are dropped at the end of the transaction or left to the end
+of the connection. All run at once, with --clients connections each, and a pause of up to --pause
+milliseconds after each transaction; each pgbench makes --rate transactions per second, and those of
+`scratch` and of `come`, which connects anew for each transaction, --come (20).
 
 Meanwhile, without the proxy, somebody writes the same rows, columns and indexes come and go, tables
 are rewritten by VACUUM FULL, and the server ends connections of the applications. With
@@ -19,6 +22,14 @@ took in that minute and at most, memory and processor time of each program. At s
 repeatable read with `--promise snapshot`, no violation may be found, and each work has to get some
 transactions through: else the exit status is 1. At other levels the violations that were found are
 listed by name.
+
+With --flat it is also looked at what is left behind, which makes the exit status 1: memory of a
+program that is more than a tenth (and 4 MiB) above that after the first minute; files and sockets
+that are open once all clients have gone, and weren't before they came; statements that a connection
+which stays has prepared without its client, beyond those after the first minute; and slots,
+temporary tables and connections that the server has once the audit has ended. An hour at full rate,
+for a quiet machine, is `--minutes 60 --work select come scratch skew --clients 200 --rate 10000
+--flat`.
 
 It needs PostgreSQL 15, psycopg2, a built proxy (ZANTEYARD_PROXY, or Go) and the proved programs.
 """
@@ -146,7 +157,25 @@ PGBENCH = {
     "tpcb": ("-b", "tpcb-like"),
     "update": ("-b", "simple-update"),
     "select": ("-b", "select-only"),
+    "come": ("-C", "-b", "simple-update"),
+    "scratch": ("-C", "-f", "scratch.sql"),
 }
+SCRATCH = """\\set a random(1, 1000)
+BEGIN;
+CREATE TEMPORARY TABLE passing_rows (id int PRIMARY KEY, n int NOT NULL) ON COMMIT DROP;
+INSERT INTO passing_rows SELECT aid, abalance FROM pgbench_accounts WHERE aid BETWEEN :a AND :a + 3;
+SELECT n FROM passing_rows WHERE id = :a;
+UPDATE pgbench_accounts SET abalance = abalance + 1 WHERE aid = :a;
+COMMIT;
+CREATE TEMPORARY TABLE kept_rows (id int PRIMARY KEY, n int NOT NULL);
+INSERT INTO kept_rows VALUES (:a, 1);
+SELECT n FROM kept_rows WHERE id = :a;
+"""
+LEFT = """SELECT (SELECT count(*) FROM pg_replication_slots),
+    (SELECT count(*) FROM pg_class WHERE relpersistence = 't' AND relkind = 'r'),
+    (SELECT count(*) FROM pg_stat_activity WHERE backend_type = 'client backend') - 1"""
+PREPARED = "SELECT count(*) FROM pg_prepared_statements WHERE name LIKE 'zanteyard%'"
+MORE, MORE_MIB, MORE_FILES = 1.1, 4.0, 3  # that count as the same
 TABLES = {"skew": "skew_rows", "lost": "lost_stock", "bank": "bank_moves", "shop": "shop_items"}
 AGAIN = (errors.SerializationFailure, errors.DeadlockDetected, errors.UniqueViolation)
 
@@ -302,6 +331,69 @@ class Watch:
             raise SystemExit("watch didn't end within 180 seconds") from None
 
 
+def files(pid: int) -> dict[str, int]:
+    """How many files and sockets each of a program's processes has open, by name."""
+    told: dict[str, int] = {}
+    for each in descendants(pid):
+        with contextlib.suppress(OSError):
+            with open(f"/proc/{each}/comm", encoding="utf-8") as file:
+                name = file.read().strip()
+            told[name] = told.get(name, 0) + len(os.listdir(f"/proc/{each}/fd"))
+    return told
+
+
+class Flat:
+    """What has to stay the same."""
+
+    def __init__(self, server: Server, watch: "Watch") -> None:
+        self.server, self.watch = server, watch
+        time.sleep(2)
+        self.files = files(watch.process.pid)
+        self.memory: dict[str, float] = {}
+        self.prepared = 0
+        self.wrong: list[str] = []
+        where = f"host=127.0.0.1 port={watch.listen} user=postgres dbname=postgres"
+        self.stays = psycopg2.connect(where, application_name="stays")
+        self.stays.autocommit = True
+
+    def look(self, used: dict[str, tuple[float, float]], is_last: bool) -> None:
+        """Called each minute, while all work."""
+        with self.stays.cursor() as cursor:
+            for i in range(20):
+                cursor.execute("SELECT abalance FROM pgbench_accounts WHERE aid = %s", (i + 1,))
+            cursor.execute(PREPARED)
+            prepared = cursor.fetchone()[0]
+        if not self.memory:
+            self.memory, self.prepared = {name: size for name, (size, _) in used.items()}, prepared
+        elif is_last:
+            for name, (size, _) in used.items():
+                most = self.memory.get(name, 0.0) * MORE + MORE_MIB
+                if size > most:
+                    self.wrong.append(f"{name} has {size:.0f} MiB, after a minute {self.memory.get(name, 0.0):.0f}")
+            if prepared > self.prepared:
+                self.wrong.append(f"{prepared} statements are prepared, after a minute {self.prepared}")
+
+    def rest(self) -> None:
+        """Called once all clients have gone."""
+        self.stays.close()
+        time.sleep(5)
+        now = files(self.watch.process.pid)
+        print(f"open files and sockets before the clients came: {self.files}, after they went: {now}")
+        for name, count in now.items():
+            if count > self.files.get(name, 0) + MORE_FILES:
+                self.wrong.append(f"{name} has {count} files and sockets open")
+
+    def ended(self) -> None:
+        """Called once the audit has ended."""
+        where = f"host=127.0.0.1 port={self.server.port} user=postgres dbname=postgres"
+        with contextlib.closing(psycopg2.connect(where)) as connection, connection.cursor() as cursor:
+            cursor.execute(LEFT)
+            found = cursor.fetchone()
+        print(f"left on the server: {found[0]} slots, {found[1]} temporary tables, {found[2]} connections")
+        if any(found):
+            self.wrong.append("something is left on the server")
+
+
 def every(seconds: float | None, ends: threading.Event, action: Callable[[], None]) -> None:
     while seconds and not ends.wait(seconds):
         action()
@@ -314,10 +406,14 @@ def everything(asked: Any, folder: str) -> Iterator[Any]:
         raise SystemExit("Go or its libraries are missing")
     server = Server(os.path.join(folder, "server"))
     server.initialize()
+    with open(os.path.join(server.data, "postgresql.conf"), "a", encoding="ascii") as settings:
+        settings.write(f"max_connections = {asked.clients * len(asked.work) + 60}\n")
     server.start()
+    with open(os.path.join(folder, "scratch.sql"), "w", encoding="ascii") as script:
+        script.write(SCRATCH)
     try:
         server.sql("postgres", SCHEMA)
-        if set(asked.work) & set(PGBENCH):
+        if asked.flat or set(asked.work) & set(PGBENCH):
             call = [postgres_program("pgbench") or "pgbench", "-i", "-q", "-s", "5"]
             call += ["-h", "127.0.0.1", "-p", str(server.port), "-U", "postgres", "postgres"]
             subprocess.run(call, check=True, capture_output=True)
@@ -326,16 +422,17 @@ def everything(asked: Any, folder: str) -> Iterator[Any]:
         server.stop()
 
 
-def pgbench(asked: Any, work: str, port: int) -> "subprocess.Popen[bytes]":
+def pgbench(asked: Any, work: str, port: int, folder: str) -> "subprocess.Popen[bytes]":
     call = [postgres_program("pgbench") or "pgbench", "-n", "-M", "prepared", "-c", str(asked.clients)]
-    call += [*PGBENCH[work], "-T", str(int(asked.minutes * 60)), "-R", str(asked.rate), "-j", "2"]
+    rate = asked.come if "-C" in PGBENCH[work] else asked.rate
+    call += [*PGBENCH[work], "-T", str(int(asked.minutes * 60)), "-R", str(rate), "-j", "2"]
     call += ["-h", "127.0.0.1", "-p", str(port)]
     call += ["-U", "postgres", "--max-tries", "100", "postgres"]
     level = LEVELS[asked.level].lower().replace(" ", "\\ ")
     options = f"-c default_transaction_isolation={level}"
     return subprocess.Popen(
         call, env=dict(os.environ, PGOPTIONS=options, PGAPPNAME="pgbench"), stdout=subprocess.PIPE,
-        stderr=subprocess.DEVNULL,
+        stderr=subprocess.DEVNULL, cwd=folder,
     )
 
 
@@ -364,9 +461,11 @@ def soak(asked: Any, server: Server, watch: Watch) -> int:
 
     for seconds, action in ((asked.kill_server, kill_server), (asked.kill_proxy, kill_proxy)):
         threads.append(threading.Thread(target=every, args=(seconds, ends, action)))
+    flat = Flat(server, watch) if asked.flat else None
     for thread in threads:
         thread.start()
-    benches = [pgbench(asked, work, watch.listen) for work in asked.work if work in PGBENCH]
+    folder = os.path.dirname(watch.log)
+    benches = [pgbench(asked, work, watch.listen, folder) for work in asked.work if work in PGBENCH]
     began = time.monotonic()
     print("minute committed    taken    reads  waiting behind  meeting  longest violations  MiB and "
           "processors", flush=True)
@@ -390,6 +489,8 @@ def soak(asked: Any, server: Server, watch: Watch) -> int:
                   f"{f.get('violations_total', 0):11.0f}  "
                   f"{sum(size for size, _ in its.values()):.0f} ({', '.join(programs)})", flush=True)
             before, meetings, took, at = its, meetings + met, took + each, now
+            if flat:
+                flat.look(its, now > began + asked.minutes * 60 - 1)
     finally:
         ends.set()
         for thread in threads:
@@ -401,13 +502,18 @@ def soak(asked: Any, server: Server, watch: Watch) -> int:
                 bench.kill()
             print((bench.communicate()[0] or b"").decode())
     found = watch.figures().get("violations_total", -1)
+    if flat:
+        flat.rest()
     print(watch.end())
+    if flat:
+        flat.ended()
+        print(*(f"WRONG: {one}" for one in flat.wrong), sep="\n")
     for client in clients:
         print(f"{client.work}: {client.committed} committed, {client.again} to be run again, "
               f"{client.connected} connections; {client.failed}")
     print(f"beside: {disturber.did}")
     kept = asked.level == "serializable" or (asked.level, asked.promise) == ("repeatable", "snapshot")
-    return int(kept and (found != 0 or not all(client.committed for client in clients)))
+    return int(bool(flat and flat.wrong) or kept and (found != 0 or not all(client.committed for client in clients)))
 
 
 def main() -> int:
@@ -418,6 +524,8 @@ def main() -> int:
     parser.add_argument("--clients", type=int, default=4, help="connections of each application (4)")
     parser.add_argument("--pause", type=float, default=20, help="how long a client pauses at most after a transaction, in milliseconds (20)")
     parser.add_argument("--rate", type=int, default=100, help="transactions a second of each pgbench (100)")
+    parser.add_argument("--come", type=int, default=20, help="transactions a second of those that connect anew for each (20)")
+    parser.add_argument("--flat", action="store_true", help="look at what is left behind")
     parser.add_argument("--undisturbed", action="store_true", help="disturb nothing")
     parser.add_argument("--kill-server", type=float, metavar="S", help="kill the server every S seconds")
     parser.add_argument("--kill-proxy", type=float, metavar="S", help="kill the proxy every S seconds")
