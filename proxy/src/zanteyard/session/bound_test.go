@@ -91,6 +91,53 @@ func TestBoundBehindTheEnd(t *testing.T) {
 	}
 }
 
+// TestErrorBehindNewerMessages: a part of a pipeline fails when the client has sent the beginning of the next one, which gives
+// the same names another meaning. Names have the newer one.
+func TestErrorBehindNewerMessages(t *testing.T) {
+	needServer(t)
+	sql(t, fill)
+	const old, text = "SELECT id FROM t WHERE id = 3", "SELECT v FROM t WHERE id = 4"
+	sync, execute, portal := &pgproto3.Sync{}, &pgproto3.Execute{}, &pgproto3.Describe{ObjectType: 'P'}
+	parse := func(name, text string) pgproto3.FrontendMessage { return &pgproto3.Parse{Name: name, Query: text} }
+	bind := func(name string) pgproto3.FrontendMessage { return &pgproto3.Bind{PreparedStatement: name} }
+	closed := &pgproto3.Close{ObjectType: 'S', Name: "s"}
+	const wrong, zero = "SELEC", "SELECT 1 / (SELECT 0)"
+	for _, x := range []struct {
+		name        string
+		first, then []pgproto3.FrontendMessage
+	}{
+		{"a text that is wrong", []pgproto3.FrontendMessage{parse("", wrong), sync, parse("", text)},
+			[]pgproto3.FrontendMessage{bind(""), portal, execute, sync}},
+		{"the name is taken", []pgproto3.FrontendMessage{parse("s", "SELECT 7"), sync, closed, parse("s", text)},
+			[]pgproto3.FrontendMessage{bind("s"), portal, execute, sync}},
+		{"the name is taken, and stays", []pgproto3.FrontendMessage{parse("s", text), sync, bind("s")},
+			[]pgproto3.FrontendMessage{portal, execute, sync}},
+		{"a portal's", []pgproto3.FrontendMessage{parse("", zero), bind(""), execute, sync, parse("", text), bind("")},
+			[]pgproto3.FrontendMessage{portal, execute, sync}},
+		{"a portal's of a named statement", []pgproto3.FrontendMessage{parse("", zero), bind(""), execute, sync, bind("s")},
+			[]pgproto3.FrontendMessage{portal, execute, sync}},
+		{"what is closed twice", []pgproto3.FrontendMessage{parse("x", wrong), closed, sync, closed, parse("s", text)},
+			[]pgproto3.FrontendMessage{bind("s"), portal, execute, sync}},
+		{"a Query that is skipped", []pgproto3.FrontendMessage{parse("", zero), bind(""), execute, &pgproto3.Query{String: "SELECT 1"}, sync, parse("", text)},
+			[]pgproto3.FrontendMessage{bind(""), portal, execute, sync}},
+		{"prepared several times", []pgproto3.FrontendMessage{parse("", wrong), parse("", old), sync, parse("", old), parse("", text)},
+			[]pgproto3.FrontendMessage{bind(""), portal, execute, sync}},
+	} {
+		plain, p := direct(t, "postgres"), through(t, "postgres", nil)
+		p.warm(old, text)
+		for _, step := range []step{named("s", old), messages('Z', bind("s"), execute, sync), messages('Z', bind("s"), execute, sync)} {
+			p.do(step)
+			plain.do(step)
+			p.settle()
+		}
+		for _, step := range []step{messages('Z', x.first...), messages('Z', x.then...), messages('Z', bind("s"), portal, execute, sync)} {
+			if got, want := show(p.do(step)), show(plain.do(step)); got != want {
+				t.Errorf("%s: got\n%s\nand not\n%s", x.name, got, want)
+			}
+		}
+	}
+}
+
 // TestTwinOfAPartThatFails: what the proxy prepares in a part of a pipeline that fails is skipped with it. The client's next
 // parts, sent in the same write, return what they would without the proxy.
 func TestTwinOfAPartThatFails(t *testing.T) {

@@ -197,6 +197,7 @@ func (s *Session) parse(o *output, m []byte, start, end int) {
 	}
 	st := s.look(string(name), text)
 	st.types = append([]byte(nil), types...)
+	st.part = s.queue.parts
 	if st.plan != nil && (st.plan.Kind == plan.Commit || st.plan.Kind == plan.PrepareTransaction) {
 		s.ask(o, st.plan)
 	}
@@ -266,6 +267,9 @@ func (s *Session) bind(o *output, m []byte, start, end int) {
 	}
 	if st.name == "" && !st.altered {
 		may = false // it was prepared unchanged: the plan has become usable since
+	}
+	if st.name != "" && !st.made && st.part != s.queue.parts {
+		may = false // the part that prepares it may fail, and its name then stands for another one, or nothing
 	}
 	if s.status == 'E' && s.queue.empty() {
 		may = may && st.name == "" // it fails: by the client's own Bind, not by what a twin needs before it

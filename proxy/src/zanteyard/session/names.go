@@ -33,6 +33,8 @@ type statement struct {
 	// pipeline. twinPart is in which part that was sent.
 	twinMade bool
 	twinPart uint64
+	made     bool   // the server has prepared it
+	part     uint64 // in which part of a pipeline it was sent
 	looked   uint64 // trust.plans when the plan was made
 	others   uint64 // what trust counted when it was prepared: its name may stand for another statement afterwards
 	unseen   string // why it wasn't looked at
@@ -179,16 +181,21 @@ func (n *names) isBeyond(name string) bool {
 	return name != "" && len(n.portals) >= mostPortals && n.portals[name] == nil
 }
 
-// back undoes what a message changed that the server didn't run.
-func (n *names) back(e *expectation) {
+// back undoes what a message changed that the server didn't run, and that isn't in the queue any more. If a newer message in
+// the queue has changed the same name, that has its meaning, and this one's is what the newer one would leave behind.
+func (n *names) back(q *queue, e *expectation) {
 	if e.message == 'D' && e.at != nil {
 		e.at.described = false
 	}
 	switch e.undo {
 	case undoStatement:
-		n.setStatement(e.name, e.previous)
+		n.wasStatement(q, e.name, e.previous)
 	case undoPortal:
-		n.setPortal(e.name, e.before)
+		if newer := q.nextChange(change{undoPortal, e.name}); newer != nil {
+			newer.before = e.before
+		} else {
+			n.setPortal(e.name, e.before)
+		}
 	case undoTwin:
 		if e.on.twin == e.name {
 			e.on.twin = ""
@@ -198,11 +205,20 @@ func (n *names) back(e *expectation) {
 	}
 }
 
+// wasStatement sets what a name stood for before the messages in the queue.
+func (n *names) wasStatement(q *queue, name string, s *statement) {
+	if newer := q.nextChange(change{undoStatement, name}); newer != nil {
+		newer.previous = s
+	} else {
+		n.setStatement(name, s)
+	}
+}
+
 // ended forgets what ends with a transaction: the protocol's portals, and cursors that don't outlive it. A portal whose Bind
 // isn't answered yet is bound behind the end, and stays.
 func (n *names) ended(q *queue) {
 	for k := range n.portals {
-		if q.binds[k] == 0 {
+		if !q.binding(k) {
 			delete(n.portals, k)
 		}
 	}

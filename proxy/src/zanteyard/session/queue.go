@@ -88,10 +88,11 @@ type queue struct {
 	parts  uint64 // and those that were sent whole
 	list   []expectation
 	head   int
-	pieces int            // of the statements in it
-	binds  map[string]int // of the client's portals, by name, how many Binds aren't answered
-	sent   time.Time      // when the client's messages that are added now were sent
-	era    uint64
+	pieces int // of the statements in it
+	// changes counts what may be undone of names, and binds the Binds of the client's portals that aren't answered.
+	changes, binds map[change]int
+	sent           time.Time // when the client's messages that are added now were sent
+	era            uint64
 	// levels and doubts are what trust counts now.
 	levels, doubts *uint64
 }
@@ -106,12 +107,7 @@ func (q *queue) push(e expectation) {
 	}
 	q.list = append(q.list, e)
 	q.pieces += len(e.pieces)
-	if e.message == 'B' && e.undo == undoPortal {
-		if q.binds == nil {
-			q.binds = map[string]int{}
-		}
-		q.binds[e.name]++
-	}
+	q.count(&e, 1)
 	if e.ends() {
 		q.parts++
 	}
@@ -165,16 +161,54 @@ func (q *queue) running() uint64 {
 	return q.ended + 1
 }
 
+// change is what the undo of an expectation is about: the name of a statement or of a portal.
+type change struct {
+	undo undo
+	name string
+}
+
+func (q *queue) count(e *expectation, by int) {
+	if e.undo != undoStatement && e.undo != undoPortal {
+		return
+	}
+	if q.changes == nil {
+		q.changes, q.binds = map[change]int{}, map[change]int{}
+	}
+	of := change{e.undo, e.name}
+	add(q.changes, of, by)
+	if e.message == 'B' {
+		add(q.binds, of, by)
+	}
+}
+
+func add(to map[change]int, of change, by int) {
+	if to[of] += by; to[of] == 0 {
+		delete(to, of)
+	}
+}
+
+// binding reports whether a Bind of the client's portal of this name isn't answered.
+func (q *queue) binding(name string) bool { return q.binds[change{undoPortal, name}] > 0 }
+
+// nextChange returns the oldest expectation that changes what the name stands for, or nil.
+func (q *queue) nextChange(of change) *expectation {
+	if q.changes[of] == 0 {
+		return nil
+	}
+	for i := q.head; i < len(q.list); i++ {
+		if e := &q.list[i]; e.undo == of.undo && e.name == of.name {
+			return e
+		}
+	}
+	return nil
+}
+
 func (q *queue) pop() {
 	e := &q.list[q.head]
 	if e.ends() {
 		q.ended++
 	}
-	if e.message == 'B' && e.undo == undoPortal {
-		if q.binds[e.name]--; q.binds[e.name] == 0 {
-			delete(q.binds, e.name)
-		}
-	}
+	q.count(e, -1)
 	q.pieces -= len(e.pieces)
 	q.list[q.head] = expectation{} // lets go of what it points to
 	q.head++
@@ -190,31 +224,14 @@ func (q *queue) pop() {
 	}
 }
 
-// skipped drops what the server skips after an error: everything up to the next Sync. It calls f for each, last one
-// first, to restore names. The message that failed is among them unless it is a Sync.
+// skipped drops what the server skips after an error: everything up to the next Sync. It calls f for each, oldest first, when
+// it has dropped it, to undo what it changed. The message that failed is among them unless it is a Sync.
 func (q *queue) skipped(f func(e *expectation)) {
-	end := q.head
-	for end < len(q.list) && q.list[end].message != 'S' {
-		end++
-	}
-	for i := end - 1; i >= q.head; i-- {
-		f(&q.list[i])
-	}
-	for q.head < end {
+	for e := q.first(); e != nil && e.message != 'S'; e = q.first() {
+		gone := *e
 		q.pop()
-		if q.head == 0 { // all were popped, or the list was moved to its beginning
-			end = q.ahead()
-		}
+		f(&gone)
 	}
-}
-
-// ahead returns the index of the next Sync.
-func (q *queue) ahead() int {
-	end := q.head
-	for end < len(q.list) && q.list[end].message != 'S' {
-		end++
-	}
-	return end
 }
 
 // copies drops the Syncs that the server ignores once a COPY FROM STDIN has begun: those before the end of the copy, or

@@ -49,6 +49,8 @@ func (s *Session) answer(o *output, m []byte, start, end int) {
 		}
 		if e.kind == twin && m[0] == '1' && e.on.twin == e.name {
 			e.on.twinMade = true
+		} else if e.kind == clients && m[0] == '1' && e.on != nil {
+			e.on.made = true
 		}
 		s.queue.pop()
 	case 't':
@@ -95,8 +97,9 @@ func (s *Session) answer(o *output, m []byte, start, end int) {
 func (s *Session) synced() *expectation {
 	e := s.queue.first()
 	for ; e != nil && e.message != 'S' && e.message != 'Q' && e.message != 'F'; e = s.queue.first() {
-		s.names.back(e)
+		gone := *e
 		s.queue.pop()
+		s.names.back(&s.queue, &gone)
 	}
 	return e
 }
@@ -371,12 +374,12 @@ func (s *Session) failed(o *output, e *expectation, m []byte, start, end int, pa
 		return // ReadyForQuery comes without a Sync
 	}
 	cleared := e.cleared
-	s.queue.skipped(s.names.back)
+	s.queue.skipped(func(e *expectation) { s.names.back(&s.queue, e) })
 	if s.skipping = s.queue.empty(); s.skipping {
 		s.open = true // also after a Query that was skipped: only the client's Sync ends this
 	}
 	if cleared {
-		s.names.setStatement("", nil)
+		s.names.wasStatement(&s.queue, "", nil)
 	}
 }
 
