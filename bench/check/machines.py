@@ -418,7 +418,7 @@ def report(asked: Any, world: World, outcome: dict[str, Any], processed: int, ro
           f"{sorted({table for each in outcome['groups'] for table in each['tables']})}; statements only seen in part: "
           f"{[(each['shape'], each['reason'], each['count']) for each in seen['statements'][:6]]}")
     wrong = [line for each in world.machines for line in each.noticed][:20]
-    strange = [each for each in outcome["groups"] if each["tables"] != ["planted"]]
+    strange = [each for each in outcome["groups"] if set(each["tables"]) - {"planted"}]
     if strange or outcome["violations"] > 2 * len(world.planted) or outcome.get("ungrouped"):
         wrong.append(f"a violation was reported that wasn't made: {json.dumps(strange)[:2000]}")
     if world.planted and not outcome["violations"]:

@@ -293,7 +293,7 @@ func (s *spare) without(it *record.Transaction) uint64 {
 		}
 		return rows
 	}
-	if !it.Began.Before(s.until) {
+	if began, _ := span(it); !began.Before(s.until) {
 		return rows
 	}
 	taken := min(rows, s.rows)

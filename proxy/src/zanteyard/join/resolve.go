@@ -117,7 +117,7 @@ func (c *core) resolve(e *entry) (resolution, bool) {
 	if e.writer != nil && e.writer.place == 0 { // it wrote nothing that the slot reports
 		delete(c.writers, e.writer.number)
 		e.writer = nil
-		if e.its.Ended.Before(c.slotted) {
+		if _, ended := span(&e.its); ended.Before(c.slotted) {
 			e.late = betweenAudits
 			c.counts.wrote(e.its.Did.Written)
 			c.counts.leaveWrites(e.late, e.its.Did.Written)

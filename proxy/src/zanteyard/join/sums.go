@@ -21,6 +21,7 @@ const (
 	someEmpty      = "a statement of it found no row"
 	beforeAudit    = "it ended before the audit began"
 	betweenAudits  = "it was under way when the audit began"
+	notConnected   = "its machine's proxy wasn't connected to the audit"
 	auditEnded     = "the audit ended before its next round"
 	noAudit        = "no audit was running"
 	tooFast        = "reported faster than they could be processed"

@@ -89,7 +89,10 @@ func (c *core) mayBeBefore(it *record.Transaction) bool {
 
 // whyUnaudited returns why nothing of a transaction is told.
 func (c *core) whyUnaudited(it *record.Transaction) string {
-	if it.Ended.Before(c.began) {
+	switch {
+	case !it.Known.IsZero(): // its times are those of another machine's clock
+		return notConnected
+	case it.Ended.Before(c.began):
 		return beforeAudit
 	}
 	return betweenAudits

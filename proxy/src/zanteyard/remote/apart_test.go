@@ -15,6 +15,10 @@ func TestApart(t *testing.T) {
 	h := newTestHub(t, to)
 	m := NewMeeter(nil, h)
 	committed := time.Now()
+	if !m.Apart(committed) {
+		t.Error("one that fed an earlier watch may not have come yet")
+	}
+	h.base = committed.Add(-gathering)
 	if m.Apart(committed) {
 		t.Error("there is no other proxy")
 	}

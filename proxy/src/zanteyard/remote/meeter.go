@@ -61,10 +61,14 @@ func (m *Meeter) Unaudited(connections []uint64) {
 func (m *Meeter) Remotes() join.Remotes { return m.hub.Remotes() }
 
 // Apart reports whether a proxy elsewhere may yet report what was committed by then: one that has fed the audit within an
-// hour and now doesn't, or whose later messages haven't arrived. These may also be lost.
+// hour and now doesn't, or whose later messages haven't arrived. These may also be lost. At first nobody knows which
+// proxies there are: those that fed an earlier watch don't report to this one what ends before they feed it.
 func (m *Meeter) Apart(committed time.Time) bool {
 	m.hub.lock.Lock()
 	defer m.hub.lock.Unlock()
+	if committed.Before(m.hub.base.Add(gathering)) {
+		return true
+	}
 	for _, a := range m.hub.proxies {
 		if a.epoch == 0 || a.reported.Before(committed.Add(reporting)) {
 			return true

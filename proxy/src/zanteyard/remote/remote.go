@@ -30,11 +30,12 @@ const (
 	silence   = 3 * time.Second        // after which the other side counts as gone
 	reporting = 500 * time.Millisecond // for the answer to a COMMIT to reach a proxy, which then reports it
 	verifying = 10 * time.Second
-	patience  = 5 * time.Second // with Redis and with the server
-	backlog   = 4096            // how many messages may wait in a stream
-	mostBytes = 512 << 10       // of a message, unless one transaction is longer: the next one waits for Redis's answer
-	mostItems = 8000            // of a message
-	mostOfOne = 4 << 20         // bytes of one transaction
+	gathering = silence + verifying + patience // until proxies that fed an earlier watch feed this one
+	patience  = 5 * time.Second                // with Redis and with the server
+	backlog   = 4096                           // how many messages may wait in a stream
+	mostBytes = 512 << 10                      // of a message, unless one transaction is longer: the next one waits for Redis's answer
+	mostItems = 8000                           // of a message
+	mostOfOne = 4 << 20                        // bytes of one transaction
 	leastKey  = 16
 )
 

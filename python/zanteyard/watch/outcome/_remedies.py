@@ -21,6 +21,7 @@ REMEDIES: Sequence[tuple[str, str]] = (
     ("it ended before the audit began", "start the audit some seconds before the application"),
     ("it was under way when the audit began",
      "start the audit some seconds before the application"),
+    ("its machine's proxy wasn't connected", "see why Redis, its network or that proxy failed"),
     ("no audit was running", "the log says why it ended"),
     ("the audit ended before its next round",
      "end the audit a second after the application; if it ended by itself, the log says why"),
