@@ -2,7 +2,7 @@
 
 from collections.abc import Iterable, Iterator
 from enum import StrEnum
-from typing import Any, NamedTuple
+from typing import NamedTuple
 
 from ..core._records import History, Logged, Naming, ShownId, Transactions
 from ..promises._times import told_gap
@@ -15,7 +15,7 @@ class Event(NamedTuple):
     what: str  # "begin" or "commit"
 
 
-Node = Any  # a ShownId, or an Event
+Node = ShownId | Event
 Ends = tuple[Node, Node]
 SESSION = "they are in one session"
 
@@ -140,8 +140,8 @@ def _around(after: dict[Node, list[Arc]], node: Node) -> list[Arc]:
 
 def told_arc(start: Node, end: Node, name: Naming) -> str:
     """Says what comes before what."""
-    if not isinstance(start, Event):
-        return f"{name(start)} comes before {name(end)}"
+    if not (isinstance(start, Event) and isinstance(end, Event)):
+        return f"{name(transaction_of(start))} comes before {name(transaction_of(end))}"
     starts, ends = (f"{name(it.id)} {it.what}s" for it in (start, end))
     return f"{starts} before {ends if start.id != end.id else f'it {end.what}s'}"
 

@@ -207,7 +207,7 @@ class _Reading:
                 continue
             node = self.moved(ShownId((left.pop(0), left.pop(0))))
             is_event = bool(left) and left[0] in EVENTS
-            found.append(Event(node, left.pop(0)) if is_event else node)
+            found.append(Event(transaction_of(node), left.pop(0)) if is_event else node)
         if left:
             raise ValueError(f"{parts}")
         return found

@@ -87,9 +87,10 @@ class Rounds(Lines):
 
     def _search_next(self) -> None:
         self._search, self._may_be_open = None, True
-        self.effort, self._begun_with = self._efforts.popleft(), [*self.received]
-        asked = (*self.effort, GUIDED)
-        self._search = SearchedRound(self._ask_of_round, asked, self.round_seconds)
+        self.effort, begun_with = self._efforts.popleft(), [*self.received]
+        asked, is_counted = (*self.effort, GUIDED), isinstance(self.program, SupervisedProgram)
+        more = (self.round_seconds, self._round_count, is_counted, lambda: begun_with)
+        self._search = SearchedRound(self._ask_of_round, asked, *more)
 
     def _await_report(self, seconds: float) -> bool:
         """Whether the report is ready; waits at most this many seconds."""
@@ -111,24 +112,19 @@ class Rounds(Lines):
             return self._report is not None
 
     def _look(self) -> None:
-        assert self._search is not None
+        search = self._search
+        assert search is not None
         try:
-            reply = self._search.look()
+            report = search.look()
         except NoRoundError:
             self._search, self._may_be_open = None, False
             return
-        if reply is not None:
-            report = Report(*reply[1:])
-            number = self._round_count.reported(report.number)
-            if report.kind == Kind.SPENT and self._efforts:
-                self._search_next()
-                return
-            self._report = report._replace(number=number)
-        elif self._search.is_skipped:
-            number = self._round_count.skipped(isinstance(self.program, SupervisedProgram))
-            self._report = Report(number, Kind.SPENT, self._begun_with)
-        else:
+        if report is None:
             return
+        if report.kind == Kind.SPENT and self._efforts and not search.is_skipped:
+            self._search_next()
+            return
+        self._report = report
         self._search, self._may_be_open = None, False
 
     def _take_report(self) -> Report:

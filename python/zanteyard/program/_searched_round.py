@@ -5,6 +5,8 @@ import time
 from collections.abc import Callable, Sequence
 from typing import Any
 
+from ..core._records import Report
+from ..core._verdict_kinds import Kind
 from ..core.errors import NoMemoryError
 
 # The efforts of a round: how many nodes its search may look at, the depth at which the search is
@@ -49,20 +51,31 @@ class RoundCount:
 
 
 class SearchedRound:
-    """A round over what has been taken in when this object is made; for one thread at a time. Each
-    call raises what `ask` raises."""
+    """A round over what has been taken in when this object is made, from its begin to its report;
+    for one thread at a time. Each call raises what `ask` raises."""
 
-    def __init__(self, ask: Ask, asked: Sequence[Any], seconds: float) -> None:
-        """`asked` is what follows the word in a round's line. The search may take `seconds`."""
+    def __init__(
+        self,
+        ask: Ask,
+        asked: Sequence[Any],
+        seconds: float,
+        count: RoundCount,
+        is_counted: bool,
+        counts: Callable[[], Sequence[int]],
+    ) -> None:
+        """`asked` is what follows the word in a round's line. The search may take `seconds`.
+        `count` numbers the rounds, `is_counted` says whether the program counts skipped ones, too,
+        and `counts` how many transactions of each session a skipped one was about."""
         self._ask, self._search, self._seconds = ask, ["search", *asked], seconds
+        self._count, self._is_counted, self._counts = count, is_counted, counts
         self._waits, self.is_skipped, self._is_late = [*WAITS], False, False
         self._began = time.monotonic()
         ask(BEGIN)
         ask(self._search)
 
-    def look(self) -> list[Any] | None:
-        """The report, if the search has ended. A search that takes too long is skipped; then the
-        round is over and `is_skipped` is set. Raises NoMemoryError after running out of memory
+    def look(self) -> Report | None:
+        """The report, if the search has ended. A search that takes too long is skipped: then the
+        report is spent, and `is_skipped` is set. Raises NoMemoryError after running out of memory
         repeatedly; then the round is over, too."""
         try:
             reply = self._ask(COLLECT)
@@ -70,10 +83,13 @@ class SearchedRound:
             self._search_again(error)
             return None
         if reply[0] == REPORT:
-            return reply
+            report = Report(*reply[1:])
+            return report._replace(number=self._count.reported(report.number))
         if self._is_late:
             self._ask(SKIP)
             self.is_skipped = True
+            number = self._count.skipped(self._is_counted)
+            return Report(number, Kind.SPENT, self._counts())
         # Takes effect at the next look: the program may have been stopped and not have searched at
         # all.
         self._is_late = time.monotonic() > self._began + self._seconds
@@ -89,3 +105,9 @@ class SearchedRound:
     def pause(self, seconds: float) -> None:
         """Waits until the next look, at most this many seconds."""
         time.sleep(max(0.0, min(seconds, pause_after(time.monotonic() - self._began))))
+
+    def wait(self, seconds: float) -> Report:
+        """The report, once it is there; no pause between two looks is longer than `seconds`."""
+        while (report := self.look()) is None:
+            self.pause(seconds)
+        return report

@@ -18,6 +18,7 @@ from ..journal._entries import Head
 from ..program._checkpoint import MARKS, OK, saved_lines, why_not_resumed
 from ..program._lines import refusal_of as refused, written
 from ..program._pipes import Pipes
+from ..program._searched_round import REPORT as REPORTS
 from ..program._searched_round import RoundCount, SearchedRound
 from ..program._supervised import SupervisedProgram
 from ..program._resuming import journaled
@@ -192,20 +193,21 @@ class Auditing:
         """The reply to a round. The search runs while the program reads other lines, so that it can
         be skipped."""
         _, *asked = json.loads(line)
+        more = (self.round_seconds, self._rounds, isinstance(self._program, SupervisedProgram))
         try:
-            search = SearchedRound(self._reply_to, asked, self.round_seconds)
-            report = search.look()
-            while report is None and not search.is_skipped:
-                search.pause(SECONDS)
-                report = search.look()
-            if report is None:
-                number = self._rounds.skipped(isinstance(self._program, SupervisedProgram))
-                counts = self._reply_to(["show"])[2]
-                return written(["report", number, "spent", counts]).encode()
+            search = SearchedRound(self._reply_to, asked, *more, self._received)
+            report = search.wait(SECONDS)
         except RefusedError:
             return self._refusal
+        if search.is_skipped:
+            return written([REPORTS, *report[:3]]).encode()
         rest = self._answer[self._answer.index(b",", len(REPORT)) :]
-        return b"%s%d%s" % (REPORT, self._rounds.reported(report[1]), rest)
+        return b"%s%d%s" % (REPORT, report.number, rest)
+
+    def _received(self) -> list[int]:
+        """How many transactions of each session the program was given."""
+        received: list[int] = self._reply_to(["show"])[2]
+        return received
 
     def _reply_to(self, line: Sequence[Any]) -> list[Any]:
         """The reply to a line; of a report only its head. Raises RefusedError."""

@@ -14,7 +14,7 @@ from ._auditing import OPEN, ROUND, TRUNCATE, Auditing, head_of, refusal_of
 from .outcome._board import Board
 from .outcome._ending import word_of
 from .violations._explaining import Explaining
-from .outcome._feed import Event, Item, answered_of, command, text, whole
+from .outcome._feed import Event, Item, answered_of, command, listed, text, whole
 from .proxy._intake import Intake
 from .violations._pending import waiting_reads
 from .violations._redacting import without_values
@@ -294,7 +294,7 @@ class Watching:
                 self._begin_anew()
             self._has_started, self._restart_at = True, None
             self.board.started(event)
-            for told in event.get("warnings", ()):
+            for told in listed(event.get("warnings")):
                 logger.warning("%s", text(told))
         elif name == "restarted":
             self._begin_anew()

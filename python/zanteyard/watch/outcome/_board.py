@@ -60,7 +60,7 @@ class Board:
     def _note(self, **changes: Any) -> None:
         self._status = replace(self._status, **changes)
 
-    def started(self, event: Mapping[str, Any]) -> None:
+    def started(self, event: Mapping[str, object]) -> None:
         with self._turn:
             self._note(
                 is_over=False,
@@ -71,17 +71,17 @@ class Board:
             )
             self._notes.extend(text(it) for it in listed(event.get("warnings")))
 
-    def earlier(self, event: Mapping[str, Any]) -> None:
+    def earlier(self, event: Mapping[str, object]) -> None:
         """Notes what ended before this run, in a proxy that it took over."""
         with self._turn:
             unaudited, untold = whole(event.get("unaudited")), whole(event.get("untold"))
             self._note(unaudited_before=unaudited, untold_before=untold)
 
-    def coverage(self, event: Mapping[str, Any]) -> None:
+    def coverage(self, event: Mapping[str, object]) -> None:
         with self._turn:
             self._note(seen=seen_of(event))
 
-    def met(self, event: Mapping[str, Any]) -> None:
+    def met(self, event: Mapping[str, object]) -> None:
         took, status = number(event.get("milliseconds")), self._status
         with self._turn:
             self._met = number(event.get("at"))
@@ -93,7 +93,7 @@ class Board:
                 fences=whole(event.get("fences")),
             )
 
-    def checks(self, event: Mapping[str, Any]) -> None:
+    def checks(self, event: Mapping[str, object]) -> None:
         """Notes that the next round is without a meeting, about what was reported by then."""
         with self._turn:
             self._met = number(event.get("at"))

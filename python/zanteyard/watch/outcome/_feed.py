@@ -4,7 +4,6 @@ values, and unknown events are left out."""
 import json
 from collections.abc import Mapping, Sequence
 from dataclasses import replace
-from typing import Any
 
 from ...core._records import AuditId, Source
 from ..violations._described import ROLLED_BACK, Described, Statement
@@ -12,7 +11,7 @@ from ._state import OtherProxy, Others, Seen, Shape
 from ._totals import Conditions, Total, Totals
 from ..violations._violations import Answered, Row
 
-Event = dict[str, Any]
+Event = dict[str, object]
 # Lines for the auditor, or an event. Lines that are looked at by themselves (`SINGLE`) come alone.
 Item = bytes | Event
 OTHERS = "others"  # the shape that counts all remaining shapes
@@ -93,11 +92,11 @@ def text(value: object) -> str:
     return value if isinstance(value, str) else ""
 
 
-def table(value: object) -> Mapping[str, Any]:
+def table(value: object) -> Mapping[str, object]:
     return value if isinstance(value, dict) else {}
 
 
-def listed(value: object) -> Sequence[Any]:
+def listed(value: object) -> Sequence[object]:
     return value if isinstance(value, list) else ()
 
 
@@ -105,7 +104,7 @@ def reasons(value: object) -> Mapping[str, int]:
     return {reason: whole(count) for reason, count in table(value).items()}
 
 
-def seen_of(event: Mapping[str, Any]) -> Seen:
+def seen_of(event: Mapping[str, object]) -> Seen:
     """The coverage in an event."""
     reads, writes = table(event.get("reads")), table(event.get("writes"))
     connections, lag = table(event.get("connections")), table(event.get("lag"))
@@ -135,7 +134,7 @@ def seen_of(event: Mapping[str, Any]) -> Seen:
     )
 
 
-def conditions_of(conditions: Mapping[str, Any]) -> Conditions:
+def conditions_of(conditions: Mapping[str, object]) -> Conditions:
     """The conditions in an event."""
     return Conditions(
         whole(conditions.get("seen")),
@@ -147,7 +146,7 @@ def conditions_of(conditions: Mapping[str, Any]) -> Conditions:
     )
 
 
-def totals_of(totals: Mapping[str, Any]) -> Totals:
+def totals_of(totals: Mapping[str, object]) -> Totals:
     """The totals in an event."""
     selects, rows = table(totals.get("selects")), table(totals.get("rows_read"))
     others = table(totals.get("without_the_proxy"))
@@ -168,7 +167,7 @@ def totals_of(totals: Mapping[str, Any]) -> Totals:
     )
 
 
-def _total(total: Mapping[str, Any]) -> Total:
+def _total(total: Mapping[str, object]) -> Total:
     return Total(
         whole(total.get("all")),
         whole(total.get("checked")),
@@ -186,7 +185,7 @@ def _others(others: object) -> Others | None:
     return Others(proxies, whole(others.get("refused")), text(others.get("down")))
 
 
-def _other(proxy: Mapping[str, Any]) -> OtherProxy:
+def _other(proxy: Mapping[str, object]) -> OtherProxy:
     return OtherProxy(
         text(proxy.get("name")),
         proxy.get("feeds") is True,
@@ -196,7 +195,7 @@ def _other(proxy: Mapping[str, Any]) -> OtherProxy:
     )
 
 
-def _shape(shape: Mapping[str, Any]) -> Shape:
+def _shape(shape: Mapping[str, object]) -> Shape:
     return Shape(
         text(shape.get("shape")),
         text(shape.get("reason")),
@@ -206,7 +205,7 @@ def _shape(shape: Mapping[str, Any]) -> Shape:
     )
 
 
-def answered_of(event: Mapping[str, Any]) -> Answered:
+def answered_of(event: Mapping[str, object]) -> Answered:
     """The answer to `describe`."""
     found: dict[AuditId, Described] = {}
     keys: dict[int, Row] = {}
@@ -219,14 +218,14 @@ def answered_of(event: Mapping[str, Any]) -> Answered:
     return Answered(found, keys)
 
 
-def _row(key: Mapping[str, Any]) -> Row:
+def _row(key: Mapping[str, object]) -> Row:
     columns = tuple(map(text, listed(key.get("columns"))))
     return Row(
         text(key.get("table")), text(key.get("row")), columns, text(key.get("condition"))
     )
 
 
-def _described(id: AuditId, one: Mapping[str, Any]) -> Described:
+def _described(id: AuditId, one: Mapping[str, object]) -> Described:
     return Described(
         id,
         text(one.get("application_name")),
@@ -245,7 +244,7 @@ def _described(id: AuditId, one: Mapping[str, Any]) -> Described:
     )
 
 
-def _statements(one: Mapping[str, Any]) -> tuple[Statement, ...]:
+def _statements(one: Mapping[str, object]) -> tuple[Statement, ...]:
     """The statements, each with the reads that it made; an older proxy's feed lacks these."""
     found = [_statement(table(it)) for it in listed(one.get("statements"))]
     reads: list[list[tuple[int, Source]]] = [[] for _ in found]
@@ -259,7 +258,7 @@ def _statements(one: Mapping[str, Any]) -> tuple[Statement, ...]:
     return tuple(replace(it, reads=tuple(its)) for it, its in zip(found, reads))
 
 
-def _statement(statement: Mapping[str, Any]) -> Statement:
+def _statement(statement: Mapping[str, object]) -> Statement:
     parameters = statement.get("parameters")
     values: tuple[str | None, ...] | None = None
     if isinstance(parameters, list):
@@ -272,6 +271,6 @@ def _statement(statement: Mapping[str, Any]) -> Statement:
     return Statement(written, values, at, unseen, where, more_parameters=more)
 
 
-def command(name: str, **more: Any) -> bytes:
+def command(name: str, **more: object) -> bytes:
     """A line for the proxy."""
     return json.dumps({"command": name, **more}, separators=(",", ":")).encode() + b"\n"
