@@ -85,7 +85,13 @@ func (b *binder) standing(of beside) (part, error) {
 // amongRows binds column = other.key for several rows of the other table.
 func (b *binder) amongRows(of compared, rows []record.Key) (part, error) {
 	its := &membership{is: equal}
-	shown := make([]string, 0, len(rows))
+	var shown []string
+	known := map[string]bool{}
+	show := func(text string) {
+		if !known[text] {
+			known[text], shown = true, append(shown, text)
+		}
+	}
 	for _, row := range rows {
 		b.row = strings.Split(string(row), "\x00")
 		one, err := b.one(of.value)
@@ -97,14 +103,16 @@ func (b *binder) amongRows(of compared, rows []record.Key) (part, error) {
 			return part{}, err
 		}
 		if one.null {
-			its.column, its.nulls, shown = column, true, append(shown, "NULL")
+			its.column, its.nulls = column, true
+			show("NULL")
 			continue
 		}
 		made, err := b.datum(one, column, unknown)
 		if err != nil {
 			return part{}, err
 		}
-		its.column, its.values, shown = column, append(its.values, made), append(shown, one.shown(unknown))
+		its.column, its.values = column, append(its.values, made)
+		show(one.shown(unknown))
 	}
 	b.row = nil
 	its.sort()

@@ -21,6 +21,9 @@ type Form struct {
 	Given bool
 	Outer []Outer
 
+	// Relies are other tables: what the statement asks for depends on what their columns are called.
+	Relies []*catalog.Table
+
 	// Partly says why a part of the condition, behind an OR, isn't followed; nil if all is.
 	Partly error
 

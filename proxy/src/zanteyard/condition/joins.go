@@ -71,6 +71,8 @@ type joins struct {
 	// flattened says that the statement has subqueries in FROM.
 	flattened bool
 	inner     *scope // the table of the subquery that is read, which comes before the others; nil outside of one
+	// relies are tables in subqueries with columns whose names would else mean those of a table around them.
+	relies map[uint32]*catalog.Table
 }
 
 // Joined reads what a SELECT over several tables asks of each of them, in the order of FROM, and what a statement shows of
@@ -81,7 +83,7 @@ func Joined(statement map[string]any, text string, c *catalog.Catalog) ([]Side, 
 	if err != nil {
 		return nil, err
 	}
-	j := &joins{catalog: c, merged: map[string]bool{}, order: flat, flattened: limited != nil}
+	j := &joins{catalog: c, merged: map[string]bool{}, order: flat, flattened: limited != nil, relies: map[uint32]*catalog.Table{}}
 	for _, entry := range flat.list("fromClause") {
 		if err := j.walk(entry); err != nil {
 			return nil, err
@@ -93,7 +95,7 @@ func Joined(statement map[string]any, text string, c *catalog.Catalog) ([]Side, 
 	j.where = append(j.where, conjuncts(flat["whereClause"])...)
 	absent := j.absent(statement, text)
 	if kind == "InsertStmt" { // what it selects isn't told
-		return withoutOuter(absent), nil
+		return j.relied(withoutOuter(absent)), nil
 	}
 	if len(j.scopes) < 2 && limited == nil && !hasSubquery(flat["whereClause"]) {
 		return nil, notOneTable
@@ -120,7 +122,21 @@ func Joined(statement map[string]any, text string, c *catalog.Catalog) ([]Side, 
 	if kind != "SelectStmt" { // which rows it writes isn't told
 		absent = withoutOuter(absent)
 	}
-	return append(sides, absent...), nil
+	return j.relied(append(sides, absent...)), nil
+}
+
+// relied adds to all forms the tables on which the statement relies.
+func (j *joins) relied(sides []Side) []Side {
+	var all []*catalog.Table
+	for _, table := range j.relies {
+		all = append(all, table)
+	}
+	for _, one := range sides {
+		if one.Form != nil {
+			one.Form.Relies = all
+		}
+	}
+	return sides
 }
 
 // walk reads an entry of a FROM clause.
@@ -264,10 +280,19 @@ func (j *joins) side(of *scope, statement map[string]any, text string) (*Form, e
 	}
 	made := &parted{form: f, others: map[string][]expression{}}
 	r := &reader{form: f, joins: j}
+	kind, body := open(statement)
+	var unread []any
+	var why error
 	for _, one := range asked {
+		places, mores := f.places(), j.mores()
 		if err := made.add(func() (expression, error) { return r.truth(one) }); err != nil {
-			return nil, err
+			f.restore(places)
+			j.without(mores)
+			unread, why, r.inner = append(unread, one), err, 0
 		}
+	}
+	if why != nil && (kind != "SelectStmt" || !j.likewise(unread, of, made, body.has("lockingClause"))) {
+		return nil, why
 	}
 	made.end()
 	groups := j.joinedWithout(of)
@@ -278,7 +303,6 @@ func (j *joins) side(of *scope, statement map[string]any, text string) (*Form, e
 			}
 		}
 	}
-	kind, body := open(statement)
 	if kind != "SelectStmt" && !f.isFirst(of.entry) {
 		return nil, mayBeHidden
 	}
@@ -325,11 +349,16 @@ func (p *parted) add(read func() (expression, error)) error {
 		p.own = append(p.own, its)
 		return nil
 	}
+	p.of(name, its)
+	return nil
+}
+
+// of adds one that depends on a row of a table.
+func (p *parted) of(name string, its expression) {
 	if p.others[name] == nil {
 		p.form.beside = append(p.form.beside, beside{name: name})
 	}
 	p.others[name] = append(p.others[name], its)
-	return nil
 }
 
 func (p *parted) end() {

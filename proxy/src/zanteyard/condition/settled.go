@@ -131,7 +131,9 @@ func (j *joins) namedInFlat(query any, its map[string]*catalog.Table) (all []*sc
 			_, has := one.table.Column(last)
 			switch {
 			case mine != nil: // until somebody drops the column
-				unclear = unclear || has && one.table.OID != mine.OID
+				if has && one.table.OID != mine.OID {
+					j.relies[mine.OID] = mine
+				}
 			case has:
 				all = append(all, one)
 			default: // a table's name stands for its rows

@@ -156,6 +156,9 @@ func (c *core) ask(one *record.Ask, ended time.Time) *question {
 func (c *core) sameTable(one *record.Ask) bool {
 	relation := one.Condition.Table()
 	columns, known := c.tables.(Columns)
+	for _, its := range one.Relies {
+		known = known && columns.SameColumns(its.Relation, its.Identity)
+	}
 	return known && c.tables.Same(relation, one.Identity) && columns.SameColumns(relation, one.Columns)
 }
 

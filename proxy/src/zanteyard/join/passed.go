@@ -167,7 +167,7 @@ func (c *core) resolveAsks(e *entry, to *resolution) bool {
 		case q == nil:
 			to.loseAsk(i, askUnknown)
 			continue
-		case q.gone || !c.sameTable(&e.its.Asks[i]) || c.mayHaveChanged(q, e):
+		case q.gone || !c.sameTable(&e.its.Asks[i]) || c.mayHaveChanged(q, e, i):
 			to.loseAsk(i, askChanged)
 			continue
 		case e.hidesOwn(&e.its.Asks[i]):
@@ -201,8 +201,13 @@ func (c *core) resolveAsks(e *entry, to *resolution) bool {
 // mayHaveChanged reports whether the transaction may have begun before it was seen that a condition may have meant
 // something else, or that some rows were hidden. Who began before the audit did may have begun before the audit in front
 // of it saw that.
-func (c *core) mayHaveChanged(q *question, e *entry) bool {
+func (c *core) mayHaveChanged(q *question, e *entry, i int) bool {
 	began, _ := span(&e.its)
+	for _, its := range e.its.Asks[i].Relies {
+		if c.isFromBefore(c.tables.Root(its.Relation), &e.its) {
+			return true
+		}
+	}
 	return c.isFromBefore(q.relation, &e.its) || !c.comparedAsUsual(e) || began.Before(c.began)
 }
 
@@ -350,6 +355,9 @@ func (c *core) takeAsks(e *entry) {
 			continue
 		}
 		c.tables.Use(e.its.Asks[i].Condition.Table())
+		for _, its := range e.its.Asks[i].Relies {
+			c.tables.Use(its.Relation)
+		}
 		e.asks[i] = c.ask(&e.its.Asks[i], ended)
 	}
 }
@@ -388,7 +396,7 @@ func (c *core) deduceFrom(e *entry) {
 		return
 	}
 	for i, q := range e.asks {
-		if q == nil || q.gone || c.mayHaveChanged(q, e) || e.hidesOwn(&e.its.Asks[i]) {
+		if q == nil || q.gone || c.mayHaveChanged(q, e, i) || e.hidesOwn(&e.its.Asks[i]) {
 			continue
 		}
 		it := c.openAsk(e, i)

@@ -37,8 +37,11 @@ func (m *maker) askedPart(column catalog.Column, value any) (askedPart, bool) {
 const firstMade = 16384 // types below this are the server's own
 
 // isOwnEquality reports whether a column is compared by an operator of the server's own: one that somebody has made may
-// say of no row that it has the key.
+// say of no row that it has the key. A cast may make a text of an enumeration's label: that is followed as a condition.
 func (m *maker) isOwnEquality(column catalog.Column) bool {
+	if column.Type == keys.Enum {
+		return false
+	}
 	for _, other := range m.catalog.OperatorsElsewhere("=") {
 		for _, takes := range []uint32{other.Left, other.Right} {
 			isAny := takes < firstMade && !keys.Known(takes) // as anyelement is

@@ -41,7 +41,8 @@ type side struct {
 	alone          *condition.Form
 	aloneConstants []int
 	decides        bool
-	absent         bool // a subquery found none, if the statement has a result
+	relies         []record.Columns // on which it depends what the statement's names mean
+	absent         bool             // a subquery found none, if the statement has a result
 }
 
 // Why what a SELECT asks for isn't followed.
@@ -158,6 +159,11 @@ func (m *maker) side(form *condition.Form, limited bool) (its side, reason strin
 	}
 	if its.columns == 0 {
 		return side{}, "unknown table"
+	}
+	for _, table := range form.Relies {
+		if its.relies = append(its.relies, record.Columns{Relation: record.Relation(table.OID), Identity: table.ColumnsIdentity}); table.ColumnsIdentity == 0 {
+			return side{}, "unknown table"
+		}
 	}
 	for _, at := range form.Constants {
 		token := m.tokenAt(at)
@@ -294,6 +300,7 @@ type Question struct {
 	Why      string          // why it isn't followed
 	Partly   string          // or a part of it
 	Given    []record.Read   // rows of other tables beside which it was asked: they have to have been there
+	Relies   []record.Columns
 }
 
 // Most returns how many rows a statement returns at most: if it returned as many, others may be missing of which its
@@ -414,7 +421,7 @@ func (s *side) asks(text string, tokens Tokens, at int, with condition.Arguments
 		return Question{Why: s.why}
 	}
 	with.Constants, with.Left = tokens.texts(text, at, len(s.constants)), tokens.left
-	q := Question{Identity: s.form.Table.Identity, Columns: s.columns, Source: s.source, Absent: s.absent}
+	q := Question{Identity: s.form.Table.Identity, Columns: s.columns, Source: s.source, Absent: s.absent, Relies: s.relies}
 	var err error
 	if q.By, err = s.form.Bind(with); err != nil {
 		q.Why = err.Error()

@@ -63,7 +63,7 @@ func (t Tokens) texts(text string, from, count int) []string {
 
 // carries lets tables have columns besides their keys among the hidden ones, if it depends on these what is asked of others.
 func (m *maker) carries(p *Plan, body node, found []*item) {
-	if !m.catalog.WithConditions() || p.Kind != Select || !isJoin(body) {
+	if !m.catalog.WithConditions() || p.Kind != Select || !isJoin(body) && !hasSubquery(body["whereClause"]) {
 		return
 	}
 	tables, _ := m.tablesOf("SelectStmt", body)

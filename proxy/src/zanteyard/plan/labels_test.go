@@ -55,6 +55,7 @@ func TestLabelsGetTypes(t *testing.T) {
 		{"", "SELECT id FROM w WHERE t = 'sad' AND m = 'sad'", `t = 'sad' AND m = COALESCE('sad', "m")`, "w WHERE t = 'sad' AND m = 'sad'"},
 		{"", "UPDATE w SET id = 3 WHERE m = 'sad'", "", "an enumeration's label without a type, of which a cast may make a text"},
 		{"", "SELECT count(*) FROM w WHERE m = 'sad'", `m = COALESCE('sad', "m")`, "w WHERE m = 'sad'"},
+		{"", "SELECT n FROM k WHERE m = 'sad'", `m = COALESCE('sad', "m")`, "k WHERE m = 'sad'"}, // it isn't reported as absent
 		{"", "SELECT n FROM k WHERE m = 'sad' AND n = 3", `m = COALESCE('sad', "m") AND`, "k WHERE m = 'sad' AND n = 3"},
 	} {
 		if x.texts != "" {

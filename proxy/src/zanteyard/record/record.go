@@ -82,6 +82,13 @@ type Ask struct {
 	Writes    bool      // it is an UPDATE or DELETE: it wrote each row that it got
 	Why       string    // why it isn't followed: then the rest is empty. "" if it is
 	Given     []Read    // rows of other tables that earlier statements got, and that it found: if these were still there
+	Relies    []Columns // on what other tables' columns are called
+}
+
+// Columns are those of a table.
+type Columns struct {
+	Relation Relation
+	Identity Identity
 }
 
 // Statement is one statement of a transaction, for readers of an explanation.

@@ -331,7 +331,7 @@ func (t *transaction) ask(a *asking, of plan.Question, found []record.Key, wrote
 		return
 	}
 	t.Asks = append(t.Asks, record.Ask{Condition: of.By, Identity: of.Identity, Columns: of.Columns, Found: found, From: a.from,
-		Wrote: wrote, Writes: a.writes, Given: of.Given})
+		Wrote: wrote, Writes: a.writes, Given: of.Given, Relies: of.Relies})
 	if a.place == 0 {
 		a.place = int32(len(t.Asks))
 	}

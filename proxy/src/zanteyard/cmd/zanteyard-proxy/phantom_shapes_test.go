@@ -16,7 +16,7 @@ type phantomShape struct {
 	reads string // a SELECT of a parent beside which it asks, "" for none
 }
 
-const phantomShapes = 10
+const phantomShapes = 11
 
 // shapesOf are those of one table, with conditions of these kinds: the proxy tries a thousand statements at once, and others
 // when it has time.
@@ -62,6 +62,9 @@ func (c phantomCondition) shape(number int, table string) phantomShape {
 		return phantomShape{text: "SELECT " + columns + from + " AND id > 0 ORDER BY id LIMIT 2", by: c, limit: 2, order: 1}
 	case 7:
 		return phantomShape{text: "SELECT " + columns + from + " ORDER BY " + table + ".id DESC LIMIT 1 OFFSET 0", by: c, limit: 1, order: -1}
+	case 10:
+		return phantomShape{text: "SELECT " + columns + from + " AND a IN (SELECT pid FROM parents WHERE name <> 'two')",
+			by: and("of a parent", func(v phantomRow) bool { return v.a >= 0 && v.a < phantomParents })}
 	case 8:
 		return phantomShape{text: "SELECT s.id, s.tag, pg_current_snapshot() FROM (SELECT * " + from + ") AS s ORDER BY s.id DESC LIMIT 2", by: c, limit: 2, order: -1}
 	}

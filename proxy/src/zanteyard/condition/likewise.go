@@ -1,0 +1,131 @@
+package condition
+
+import "zanteyard/catalog"
+
+// A part of a condition that isn't followed held of each row of the result. If it depends on nothing but some of the row's
+// columns, it would hold of any other row with the same values there. So what is asked for is the rest of the condition, and
+// that a row has these values of a row in the result: `WHERE open AND status IN (SELECT ..)` with rows of the statuses 2 and
+// 5 asks for the rows WHERE open AND status IN (2, 5). Where the whole key is among these columns, that says nothing.
+
+// likewise adds to a form that a row has the same values of some columns as one in the result, in place of conditions that
+// aren't followed. It returns false if these depend on more than that.
+func (j *joins) likewise(conditions []any, of *scope, p *parted, locks bool) bool {
+	var columns []*catalog.Column
+	for _, one := range conditions {
+		its, ok := j.columnsOf(one, of)
+		if !ok || locks || len(its) == 0 || !j.settled(one) {
+			return false
+		}
+		for _, column := range its {
+			columns = with(columns, column)
+		}
+	}
+	if len(conditions) == 0 || hasKey(columns, of.table) {
+		return len(conditions) == 0
+	}
+	r := &reader{form: p.form, joins: j}
+	for _, column := range columns {
+		if column.Generated || column.Collation == catalog.NotDeterministic || r.elsewhere(column, symbol{name: "=", qualified: true}) != nil {
+			return false
+		}
+		switch familyOfColumn(column) {
+		case integers, texts, uuids:
+		default:
+			return false
+		}
+		p.form.Outer = append(p.form.Outer, Outer{of.name, of.table, column, of.place(column)})
+		p.of(of.name, compared{column, equal, operand{outer: len(p.form.Outer)}})
+	}
+	p.form.Given = true
+	return true
+}
+
+func with(all []*catalog.Column, column *catalog.Column) []*catalog.Column {
+	for _, one := range all {
+		if one.Number == column.Number {
+			return all
+		}
+	}
+	return append(all, column)
+}
+
+// hasKey reports whether columns have a table's whole key.
+func hasKey(columns []*catalog.Column, of *catalog.Table) bool {
+	found := 0
+	for i := range of.Key {
+		for _, one := range columns {
+			if one.Number == of.Key[i].Number {
+				found++
+			}
+		}
+	}
+	return found == len(of.Key)
+}
+
+// columnsOf returns the columns of a table on which a condition depends, if it depends on no other one around its
+// subqueries.
+func (j *joins) columnsOf(value any, of *scope) (all []*catalog.Column, ok bool) {
+	ok = true
+	add := func(name string) {
+		for i := range of.table.Columns {
+			if column := &of.table.Columns[i]; column.Name == name {
+				all = with(all, column)
+				return
+			}
+		}
+		ok = false
+	}
+	walk(value, func(kind string, body tree) bool {
+		switch kind {
+		case "ColumnRef":
+			found, column, err := j.resolve(body.names("fields"))
+			if err != nil || found != of {
+				ok = false
+			} else {
+				add(column.Name)
+			}
+		case "SubLink":
+			outside, is := j.columnsOf(body["testexpr"], of)
+			for _, column := range outside {
+				add(column.Name)
+			}
+			ok = ok && is && j.columnsInside(body["subselect"], of, add)
+			return false
+		}
+		return ok
+	})
+	return all, ok
+}
+
+// columnsInside calls add with the columns of a table around a subquery that it mentions. It returns false if it may mention
+// another table around it.
+func (j *joins) columnsInside(query any, of *scope, add func(name string)) bool {
+	named, unclear := j.namedInside(query)
+	for _, one := range named {
+		unclear = unclear || one != of
+	}
+	its, isFlat := j.flat(query)
+	visit(query, func(kind string, body tree) {
+		fields := body.names("fields")
+		if kind != "ColumnRef" || len(fields) == 0 {
+			return
+		}
+		last := fields[len(fields)-1]
+		switch {
+		case len(fields) > 1:
+			if fields[len(fields)-2] == of.name && its[of.name] == nil {
+				add(last)
+			}
+		case isFlat:
+			for _, table := range its {
+				if _, has := table.Column(last); has {
+					return
+				}
+			}
+			if _, has := of.table.Column(last); has {
+				add(last)
+			}
+		}
+	})
+	return !unclear
+}
