@@ -52,16 +52,20 @@ func (b *binder) standing(of beside) (part, error) {
 	if len(rows) == 0 {
 		return part{}, noneBeside
 	}
-	byEquality := false
-	if its, ok := of.root.(compared); ok {
-		byEquality = its.is == equal && its.value.outer > 0
+	var equals compared
+	byEquality, nullsToo := false, false
+	switch its := of.root.(type) {
+	case compared:
+		equals, byEquality = its, its.is == equal && its.value.outer > 0
+	case same:
+		equals, byEquality, nullsToo = compared{its.column, equal, its.value}, true, true
 	}
 	if !byEquality && len(rows) > mostBeside {
 		return part{}, manyBeside
 	}
 	sort.Slice(rows, func(i, k int) bool { return rows[i] < rows[k] })
 	if byEquality {
-		return b.amongRows(of.root.(compared), rows)
+		return b.amongRows(equals, nullsToo, rows)
 	}
 	left, known := b.left, map[string]bool{}
 	var parts []part
@@ -82,9 +86,9 @@ func (b *binder) standing(of beside) (part, error) {
 	return joined(parts, false), nil
 }
 
-// amongRows binds column = other.key for several rows of the other table.
-func (b *binder) amongRows(of compared, rows []record.Key) (part, error) {
-	its := &membership{is: equal}
+// amongRows binds column = other.key for several rows of the other table; nullsToo: NULL is like NULL.
+func (b *binder) amongRows(of compared, nullsToo bool, rows []record.Key) (part, error) {
+	its, like := &membership{is: equal}, []part(nil)
 	var shown []string
 	known := map[string]bool{}
 	show := func(text string) {
@@ -102,6 +106,13 @@ func (b *binder) amongRows(of compared, rows []record.Key) (part, error) {
 		if err != nil {
 			return part{}, err
 		}
+		if one.null && nullsToo {
+			if like == nil {
+				made, _ := nulls{of.column, false}.bind(b)
+				like = []part{made}
+			}
+			continue
+		}
 		if one.null {
 			its.column, its.nulls = column, true
 			show("NULL")
@@ -114,9 +125,13 @@ func (b *binder) amongRows(of compared, rows []record.Key) (part, error) {
 		its.column, its.values = column, append(its.values, made)
 		show(one.shown(unknown))
 	}
-	b.row = nil
+	if b.row = nil; its.column == nil { // of the first such row
+		return like[0], nil
+	}
 	its.sort()
 	made := part{clause: its, key: its.key(), strength: aTest}
-	made.text, made.shape = among{column: of.column}.words(shown)
+	if made.text, made.shape = (among{column: of.column}).words(shown); like != nil {
+		return joined(append(like, made), false), nil
+	}
 	return made, nil
 }

@@ -6,6 +6,9 @@ import "zanteyard/catalog"
 // columns, it would hold of any other row with the same values there. So what is asked for is the rest of the condition, and
 // that a row has these values of a row in the result: `WHERE open AND status IN (SELECT ..)` with rows of the statuses 2 and
 // 5 asks for the rows WHERE open AND status IN (2, 5). Where the whole key is among these columns, that says nothing.
+//
+// It may depend on rows of other tables, too, if each of these is joined by its whole key, by columns of the row: another row
+// with the same values there is beside the same rows of theirs.
 
 // likewise adds to a form that a row has the same values of some columns as one in the result, in place of conditions that
 // aren't followed. It returns false if these depend on more than that.
@@ -34,7 +37,7 @@ func (j *joins) likewise(conditions []any, of *scope, p *parted, locks bool) boo
 			return false
 		}
 		p.form.Outer = append(p.form.Outer, Outer{of.name, of.table, column, of.place(column)})
-		p.of(of.name, compared{column, equal, operand{outer: len(p.form.Outer)}})
+		p.of(of.name, same{column, operand{outer: len(p.form.Outer)}})
 	}
 	p.form.Given = true
 	return true
@@ -62,8 +65,8 @@ func hasKey(columns []*catalog.Column, of *catalog.Table) bool {
 	return found == len(of.Key)
 }
 
-// columnsOf returns the columns of a table on which a condition depends, if it depends on no other one around its
-// subqueries.
+// columnsOf returns the columns of a table on which a condition depends, if it depends on nothing else around its subqueries
+// but what is joined by them.
 func (j *joins) columnsOf(value any, of *scope) (all []*catalog.Column, ok bool) {
 	ok = true
 	add := func(name string) {
@@ -79,10 +82,13 @@ func (j *joins) columnsOf(value any, of *scope) (all []*catalog.Column, ok bool)
 		switch kind {
 		case "ColumnRef":
 			found, column, err := j.resolve(body.names("fields"))
-			if err != nil || found != of {
+			switch {
+			case err != nil:
 				ok = false
-			} else {
+			case found == of:
 				add(column.Name)
+			default:
+				ok = ok && j.joinedBy(found, of, add)
 			}
 		case "SubLink":
 			outside, is := j.columnsOf(body["testexpr"], of)
@@ -97,12 +103,45 @@ func (j *joins) columnsOf(value any, of *scope) (all []*catalog.Column, ok bool)
 	return all, ok
 }
 
+// joinedBy calls add with the columns of a table by which another one is joined to each of its rows, or returns false if it
+// isn't joined by its whole key.
+func (j *joins) joinedBy(other, of *scope, add func(name string)) bool {
+	by := map[int16]string{}
+	for _, one := range append(append([]any(nil), of.quals...), j.where...) {
+		kind, body := open(one)
+		if kind != "A_Expr" || body.text("kind") != "AEXPR_OP" || !isEquals(body) || !j.settled(one) {
+			continue
+		}
+		for _, sides := range [][2]string{{"lexpr", "rexpr"}, {"rexpr", "lexpr"}} {
+			kind, its := open(body[sides[0]])
+			otherKind, mine := open(body[sides[1]])
+			if kind != "ColumnRef" || otherKind != "ColumnRef" {
+				continue
+			}
+			found, key, err := j.resolve(its.names("fields"))
+			beside, column, wrong := j.resolve(mine.names("fields"))
+			if err == nil && wrong == nil && found == other && beside == of {
+				by[key.Number] = column.Name
+			}
+		}
+	}
+	for i := range other.table.Key {
+		if by[other.table.Key[i].Number] == "" {
+			return false
+		}
+	}
+	for _, name := range by {
+		add(name)
+	}
+	return !other.nullable && len(other.table.Key) > 0
+}
+
 // columnsInside calls add with the columns of a table around a subquery that it mentions. It returns false if it may mention
 // another table around it.
 func (j *joins) columnsInside(query any, of *scope, add func(name string)) bool {
 	named, unclear := j.namedInside(query)
 	for _, one := range named {
-		unclear = unclear || one != of
+		unclear = unclear || one != of && !j.joinedBy(one, of, add)
 	}
 	its, isFlat := j.flat(query)
 	visit(query, func(kind string, body tree) {
@@ -128,4 +167,18 @@ func (j *joins) columnsInside(query any, of *scope, add func(name string)) bool 
 		}
 	})
 	return !unclear
+}
+
+// same is that a column has the same value as one of another row, or is NULL as that is.
+type same struct {
+	column *catalog.Column
+	value  operand
+}
+
+func (s same) bind(b *binder) (part, error) {
+	if its, err := b.one(s.value); err != nil || its.null {
+		made, _ := nulls{s.column, false}.bind(b)
+		return made, err
+	}
+	return compared{s.column, equal, s.value}.bind(b)
 }
