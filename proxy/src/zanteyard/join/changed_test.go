@@ -16,12 +16,14 @@ func TestAskedWhileDefinitionsChanged(t *testing.T) {
 		what   string
 		change func(*core)
 		left   bool
+		relies []record.Columns
 	}{
-		{"nothing", func(*core) {}, false},
-		{"another table", func(c *core) { c.forgetTables(map[record.Relation]bool{2: true}) }, false},
-		{"the table", func(c *core) { c.forgetTables(map[record.Relation]bool{1: true}) }, true},
-		{"an operator", func(c *core) { c.forgetMeanings() }, true},
-		{"perhaps an operator", func(c *core) { (&gate{}).verify(Place{MayMean: true}, c) }, true},
+		{"nothing", func(*core) {}, false, nil},
+		{"another table", func(c *core) { c.forgetTables(map[record.Relation]bool{2: true}) }, false, []record.Columns{{Relation: 3}}},
+		{"a table in a subquery", func(c *core) { c.forgetTables(map[record.Relation]bool{2: true}) }, true, []record.Columns{{Relation: 3}, {Relation: 2}}},
+		{"the table", func(c *core) { c.forgetTables(map[record.Relation]bool{1: true}) }, true, nil},
+		{"an operator", func(c *core) { c.forgetMeanings() }, true, nil},
+		{"perhaps an operator", func(c *core) { (&gate{}).verify(Place{MayMean: true}, c) }, true, nil},
 	} {
 		for _, reported := range []bool{false, true} { // before the change is seen
 			row := condition.NewRow(nil)
@@ -29,7 +31,7 @@ func TestAskedWhileDefinitionsChanged(t *testing.T) {
 			b := newBench(t, Options{Sessions: 2})
 			b.connect(1)
 			ask := func(place uint64, began time.Time) {
-				b.tell(1, place, record.Transaction{Level: record.ReadCommitted, Began: began, Asks: []record.Ask{{Condition: its, From: began}}})
+				b.tell(1, place, record.Transaction{Level: record.ReadCommitted, Began: began, Asks: []record.Ask{{Condition: its, From: began, Relies: x.relies}}})
 			}
 			began := b.now
 			if b.later(time.Second); reported {
@@ -49,6 +51,20 @@ func TestAskedWhileDefinitionsChanged(t *testing.T) {
 				t.Errorf("after %s has changed %d are followed, left out %v", x.what, n.asksFollowed, n.leftAsks)
 			}
 		}
+	}
+}
+
+// TestAskedOfOtherColumns: the same, if a table in a subquery has other columns than the statement took it for.
+func TestAskedOfOtherColumns(t *testing.T) {
+	b := newBench(t, Options{Sessions: 2})
+	b.connect(1)
+	for place, its := range []record.Columns{{Relation: 2}, {Relation: 2, Identity: 1}} {
+		b.tell(1, uint64(place), record.Transaction{Level: record.ReadCommitted, Began: b.now,
+			Asks: []record.Ask{{Condition: &fakeCondition{kind: "y"}, From: b.now, Relies: []record.Columns{its}}}})
+		b.settle()
+	}
+	if n := b.core.counts; n.asksFollowed != 1 || n.leftAsks[askUnknown]+n.leftAsks[askChanged] != 1 {
+		t.Errorf("%d followed, left out %v", n.asksFollowed, n.leftAsks)
 	}
 }
 
