@@ -23,7 +23,7 @@ func (j *joins) likewise(conditions []any, of *scope, p *parted, locks bool) boo
 			columns = with(columns, column)
 		}
 	}
-	if len(conditions) == 0 || hasKey(columns, of.table) {
+	if len(conditions) == 0 || j.hasKey(columns, of) {
 		return len(conditions) == 0
 	}
 	r := &reader{form: p.form, joins: j}
@@ -52,17 +52,39 @@ func with(all []*catalog.Column, column *catalog.Column) []*catalog.Column {
 	return append(all, column)
 }
 
-// hasKey reports whether columns have a table's whole key.
-func hasKey(columns []*catalog.Column, of *catalog.Table) bool {
-	found := 0
-	for i := range of.Key {
-		for _, one := range columns {
-			if one.Number == of.Key[i].Number {
-				found++
+// hasKey reports whether columns have a table's whole key, with those that are asked for a constant.
+func (j *joins) hasKey(columns []*catalog.Column, of *scope) bool {
+	has := j.byConstants(of)
+	for _, one := range columns {
+		has[one.Number] = true
+	}
+	for i := range of.table.Key {
+		if !has[of.table.Key[i].Number] {
+			return false
+		}
+	}
+	return true
+}
+
+// byConstants are the columns of a table that a statement asks for a value that no column has.
+func (j *joins) byConstants(of *scope) map[int16]bool {
+	its := map[int16]bool{}
+	for _, one := range append(append([]any(nil), of.quals...), j.where...) {
+		kind, body := open(one)
+		if kind != "A_Expr" || body.text("kind") != "AEXPR_OP" || !isEquals(body) {
+			continue
+		}
+		for _, sides := range [][2]string{{"lexpr", "rexpr"}, {"rexpr", "lexpr"}} {
+			kind, name := open(body[sides[0]])
+			if kind != "ColumnRef" || kindWithin(body[sides[1]], "ColumnRef") {
+				continue
+			}
+			if found, column, err := j.resolve(name.names("fields")); err == nil && found == of {
+				its[column.Number] = true
 			}
 		}
 	}
-	return found == len(of.Key)
+	return its
 }
 
 // columnsOf returns the columns of a table on which a condition depends, if it depends on nothing else around its subqueries
