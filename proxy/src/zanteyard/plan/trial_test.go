@@ -186,7 +186,7 @@ func TestAskedKey(t *testing.T) {
 		{text: "SELECT v FROM times WHERE id = '2000-01-01 00:00:01+00'", want: "1000000"},
 		{text: "SELECT v FROM times WHERE id = '2000-01-01 00:00:01'", want: "no"},
 		{text: "SELECT v FROM times WHERE id = '01/01/2000'", want: "no"},
-		{text: "SELECT v FROM moods WHERE id = 'sad'", want: "sad"},
+		{text: "SELECT v FROM moods WHERE id = 'sad'", want: "no"}, // but by a condition, with the label's type
 		{text: "SELECT v FROM floats WHERE id = 0.1", want: "no"},
 		{text: "SELECT o FROM other.z WHERE id = 'A0EEBC99-9C0B-4EF8-BB6D-6BB9BD380A11'",
 			want: "a0eebc99-9c0b-4ef8-bb6d-6bb9bd380a11"},
