@@ -209,3 +209,34 @@ func TestInbox(t *testing.T) {
 		t.Error("a closed inbox takes something")
 	}
 }
+
+// TestUnsentHasASeat: a connection of another machine that has only read while it had no session gets one for what it reads
+// next, and keeps it while it works: until then its proxy sends none of its reads.
+func TestUnsentHasASeat(t *testing.T) {
+	const connections = 6
+	b := newBench(t, Options{Sessions: 8, First: 2})
+	for number := uint64(1); number <= connections; number++ {
+		b.core.enter(record.Connection{Number: number, Proxy: "elsewhere"})
+	}
+	places := map[uint64]uint64{}
+	for round := 0; round < 3; round++ {
+		b.later(time.Second)
+		b.core.meet(b.now)
+		b.later(time.Millisecond)
+		for number := uint64(1); number <= connections; number++ {
+			it := record.Transaction{Reads: []record.Read{read("a", 7)}}
+			if b.core.connections[number].session == nil {
+				it = record.Transaction{Unsent: 1}
+			}
+			b.tell(number, places[number], it)
+			places[number]++
+		}
+		b.settle()
+		if left := len(b.core.unaudited()); left > 0 {
+			t.Errorf("after round %d %d connections have no session", round, left)
+		}
+	}
+	if n := b.core.counts.folded[noSession]; n != connections-2 {
+		t.Errorf("%d transactions are left out", n)
+	}
+}

@@ -20,8 +20,10 @@ func (c *core) seat(conn *connection, it *record.Transaction) {
 		began = c.now // the transaction is folded, and the next one finds a session
 	}
 	s := c.idlest(began)
-	if s == nil {
-		s = c.join(began)
+	if s == nil || c.wouldMiss(s) {
+		if another := c.join(began); another != nil {
+			s = another
+		}
 	}
 	if s == nil {
 		c.short = true
@@ -33,6 +35,12 @@ func (c *core) seat(conn *connection, it *record.Transaction) {
 		s.tenant.session = nil
 	}
 	c.sit(conn, s)
+}
+
+// wouldMiss reports whether the session's connection would miss it: one that works, of another machine, whose proxy sends
+// nothing that it reads until it has another one.
+func (c *core) wouldMiss(s *session) bool {
+	return s.tenant != nil && s.tenant.its.Proxy != "" && c.works(s.tenant)
 }
 
 // sit gives a connection a session that nobody has.

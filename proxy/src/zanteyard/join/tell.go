@@ -64,7 +64,8 @@ func (c *core) tell(it record.Transaction) {
 
 // mayHaveSeat reports whether a connection is audited, and works.
 func (c *core) mayHaveSeat(conn *connection, it *record.Transaction) bool {
-	return it.Outcome != record.Aborted && !it.Unaudited && !isEmpty(*it) && c.sampled(it.Connection) && !c.isElsewhere(conn.its)
+	works := !isEmpty(*it) || it.Unsent > 0 // then it has one for what it does next
+	return it.Outcome != record.Aborted && !it.Unaudited && works && c.sampled(it.Connection) && !c.isElsewhere(conn.its)
 }
 
 // outcome returns how a transaction ended, or what it counts as.
