@@ -165,9 +165,9 @@ module _ (lines new : List (Vec ℕ Global)) (numbers : List Saved) (row : List 
             | inr past ↦ inr (at_new line at ∙ low.lowering.others (at / length row) (at % length row) (inr past) small ∙ sym (at_row line at))
             | inl under ↦ elim (were.rows (at / length row) (tail_begins line inside above) under (at % length row) small) [
               | inr found ↦ inl (saved_at line at found)
-              | inl same ↦
+              | inl stays ↦
                   let less = low.lowering.joined (at / length row) (at % length row) above under small in
-                  inr (at_new line at ∙ elim (less.2) [ inl was ↦ was | inr other ↦ other ∙ sym same ] ∙ sym (at_row line at))
+                  inr (at_new line at ∙ elim (less.2) [ inl was ↦ was | inr other ↦ omega (arith, less.0, other, stays) ] ∙ sym (at_row line at))
             ]
           ]
         ]
@@ -198,9 +198,9 @@ module _ (lines new : List (Vec ℕ Global)) (numbers : List Saved) (row : List 
             | inl below ↦ inr (at_new line at ∙ high.raising.others (at / length row) (at % length row) (inl below) small ∙ sym (at_row line at))
             | inr above ↦ elim (were.each (at / length row) above (span_ends line inside under) (at % length row) small) [
               | inr found ↦ inl (saved_at line at found)
-              | inl same ↦
+              | inl stays ↦
                   let more = high.raising.joined (at / length row) (at % length row) above under small in
-                  inr (at_new line at ∙ elim (more.2) [ inl was ↦ was | inr other ↦ other ∙ sym same ] ∙ sym (at_row line at))
+                  inr (at_new line at ∙ elim (more.2) [ inl was ↦ was | inr other ↦ omega (arith, more.0, other, stays) ] ∙ sym (at_row line at))
             ]
           ]
         ]

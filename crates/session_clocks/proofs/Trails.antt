@@ -6,8 +6,10 @@ use Rattle.std.proofs.lemmas.List.Elements.{All-append, All-push, All-nil, Conta
 use Rattle.std.proofs.Math.Seq.{drop-append_seam}
 use Rattle.std.specs.Prelude.{nat_eq}
 use Rattle.session_clocks.specs.Rows.{line_at, number_at}
-use Rattle.session_clocks.specs.SavedNumbers.{place_in, IsSavedFrom, IsSavedIn, IsMoreOf, since, had, IsRowSaved, IsTailSaved, IsSpanSaved}
+use Rattle.session_clocks.specs.SavedNumbers.{place_in, IsSavedFrom, IsSavedIn, IsMoreOf, since, had, Stays, IsRowSaved, IsTailSaved, IsSpanSaved}
 use Rattle.session_clocks.specs.declared.trail.Saved.{Saved}
+use Rattle.session_clocks.specs.declared.trail.Way.{Way}
+use Rattle.session_clocks.specs.declared.trail.Way.TheVariants.{Lowered, Raised}
 
 -- whether it is the place that a number was saved of
 abbrev pub is_place : Saved → ℕ → ℕ → Bool
@@ -105,31 +107,31 @@ since-one : (old : List Saved) (saved : Saved) → since old (old ++ saved ∷ [
 since-one old saved = drop-append_seam old (saved ∷ [])
 
 module _ (lines : List (Vec ℕ Global)) (old mid new : List Saved) (so_far : IsMoreOf lines old mid) (more : IsMoreOf lines mid new) where
-  IsRowSaved-before : (line at : ℕ) (row : List ℕ) → IsRowSaved lines (since old mid) line at row → IsRowSaved lines (since old new) line at row
-  IsRowSaved-before line at row saved k within = elim (saved k within) [
+  IsRowSaved-before : (way : Way) (line at : ℕ) (row : List ℕ) → IsRowSaved way lines (since old mid) line at row → IsRowSaved way lines (since old new) line at row
+  IsRowSaved-before way line at row saved k within = elim (saved k within) [
     | inl same ↦ inl same
     | inr found ↦ inr (IsSavedIn-before lines old mid new line (at * length row + k) so_far more found)
   ]
 
-  IsRowSaved-later : (line at : ℕ) (row : List ℕ) → IsRowSaved lines (since mid new) line at row → IsRowSaved lines (since old new) line at row
-  IsRowSaved-later line at row saved k within = elim (saved k within) [
+  IsRowSaved-later : (way : Way) (line at : ℕ) (row : List ℕ) → IsRowSaved way lines (since mid new) line at row → IsRowSaved way lines (since old new) line at row
+  IsRowSaved-later way line at row saved k within = elim (saved k within) [
     | inl same ↦ inl same
     | inr found ↦ inr (IsSavedIn-later lines old mid new line (at * length row + k) so_far more found)
   ]
 
   -- one more row is saved
-  pub rows-more : (line : ℕ) (row : List ℕ) (from to at from_then to_then : ℕ) → ((k : ℕ) → from_then ≤ k → k < to_then → (k ≡ at) ⊎ ((from ≤ k) × (k < to)))
-      → IsRowSaved lines (since mid new) line at row → ((k : ℕ) → from ≤ k → k < to → IsRowSaved lines (since old mid) line k row) → (k : ℕ) → from_then ≤ k → k < to_then → IsRowSaved lines (since old new) line k row
-  rows-more line row from to at from_then to_then cases here were k above below = elim (cases k above below) [
-    | inl same ↦ subst (λ n. IsRowSaved lines (since old new) line n row) (sym same) (IsRowSaved-later line at row here)
-    | inr within ↦ IsRowSaved-before line k row (were k within.0 within.1)
+  pub rows-more : (way : Way) (line : ℕ) (row : List ℕ) (from to at from_then to_then : ℕ) → ((k : ℕ) → from_then ≤ k → k < to_then → (k ≡ at) ⊎ ((from ≤ k) × (k < to)))
+      → IsRowSaved way lines (since mid new) line at row → ((k : ℕ) → from ≤ k → k < to → IsRowSaved way lines (since old mid) line k row) → (k : ℕ) → from_then ≤ k → k < to_then → IsRowSaved way lines (since old new) line k row
+  rows-more way line row from to at from_then to_then cases here were k above below = elim (cases k above below) [
+    | inl same ↦ subst (λ n. IsRowSaved way lines (since old new) line n row) (sym same) (IsRowSaved-later way line at row here)
+    | inr within ↦ IsRowSaved-before way line k row (were k within.0 within.1)
   ]
 
   pub IsTailSaved-before : (line session number : ℕ) (row : List ℕ) (top : ℕ) → IsTailSaved lines (since old mid) line session number row top → IsTailSaved lines (since old new) line session number row top
   IsTailSaved-before line session number row top saved = record {
     stop = saved.stop;
     order = saved.order;
-    rows = λ at above below. IsRowSaved-before line at row (saved.rows at above below);
+    rows = λ at above below. IsRowSaved-before Lowered line at row (saved.rows at above below);
     before = saved.before;
   }
 
@@ -137,7 +139,7 @@ module _ (lines : List (Vec ℕ Global)) (old mid new : List Saved) (so_far : Is
   IsTailSaved-later line session number row top saved = record {
     stop = saved.stop;
     order = saved.order;
-    rows = λ at above below. IsRowSaved-later line at row (saved.rows at above below);
+    rows = λ at above below. IsRowSaved-later Lowered line at row (saved.rows at above below);
     before = saved.before;
   }
 
@@ -145,7 +147,7 @@ module _ (lines : List (Vec ℕ Global)) (old mid new : List Saved) (so_far : Is
   IsSpanSaved-before line session number row from rows saved = record {
     stop = saved.stop;
     order = saved.order;
-    each = λ at above below. IsRowSaved-before line at row (saved.each at above below);
+    each = λ at above below. IsRowSaved-before Raised line at row (saved.each at above below);
     behind = saved.behind;
   }
 
@@ -153,22 +155,22 @@ module _ (lines : List (Vec ℕ Global)) (old mid new : List Saved) (so_far : Is
   IsSpanSaved-later line session number row from rows saved = record {
     stop = saved.stop;
     order = saved.order;
-    each = λ at above below. IsRowSaved-later line at row (saved.each at above below);
+    each = λ at above below. IsRowSaved-later Raised line at row (saved.each at above below);
     behind = saved.behind;
   }
 
--- the row's numbers so far are saved, or are the other row's
-abbrev pub AreSavedBelow : List (Vec ℕ Global) → List Saved → ℕ → ℕ → List ℕ → ℕ → Type 0
-AreSavedBelow lines numbers line at row done = (k : ℕ) → k < done → (number_at (length row) (line_at lines line) at k ≡ get_or row k 0) ⊎ IsSavedIn numbers line (at * length row + k)
+-- the row's numbers so far are saved, or joining the other row leaves them as they are
+abbrev pub AreSavedBelow : Way → List (Vec ℕ Global) → List Saved → ℕ → ℕ → List ℕ → ℕ → Type 0
+AreSavedBelow way lines numbers line at row done = (k : ℕ) → k < done → Stays way (number_at (length row) (line_at lines line) at k) (get_or row k 0) ⊎ IsSavedIn numbers line (at * length row + k)
 
-module _ (lines : List (Vec ℕ Global)) (old new : List Saved) (line at : ℕ) (row : List ℕ) (k number : ℕ) where
+module _ (way : Way) (lines : List (Vec ℕ Global)) (old new : List Saved) (line at : ℕ) (row : List ℕ) (k number : ℕ) where
   abbrev saved_number : Saved
   saved_number = record { line = line; place = at * length row + k; number = number }
 
   abbrev with_one : List Saved
   with_one = new ++ saved_number ∷ []
 
-  pub AreSavedBelow-save : IsSavedFrom lines saved_number → IsMoreOf lines old new → AreSavedBelow lines (since old new) line at row k → AreSavedBelow lines (since old with_one) line at row (k + 1)
+  pub AreSavedBelow-save : IsSavedFrom lines saved_number → IsMoreOf lines old new → AreSavedBelow way lines (since old new) line at row k → AreSavedBelow way lines (since old with_one) line at row (k + 1)
   AreSavedBelow-save from so_far below j within =
       let one = IsMoreOf-one lines new saved_number from in
       elim (cases_lt j k) [

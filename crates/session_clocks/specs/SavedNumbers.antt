@@ -4,6 +4,8 @@ use Rattle.std.specs.declared.alloc.Global.{Global}
 use Rattle.txn.specs.declared.transactions.TxnId.{TxnId}
 use Rattle.session_clocks.specs.Rows.{line_at, number_at}
 use Rattle.session_clocks.specs.declared.trail.Saved.{Saved}
+use Rattle.session_clocks.specs.declared.trail.Way.{Way}
+use Rattle.session_clocks.specs.declared.trail.Way.TheVariants.{Lowered, Raised}
 
 -- the number at a place of a line
 abbrev pub place_in : List (Vec ℕ Global) → ℕ → ℕ → ℕ
@@ -34,22 +36,27 @@ abbrev pub had : List Saved → (ℕ → ℕ → ℕ) → ℕ → ℕ → ℕ
 had [] numbers line place = numbers line place
 had (saved ∷ later) numbers line place = cond (nat_eq saved.line line && nat_eq saved.place place) saved.number (had later numbers line place)
 
--- each number of the row that joining another row may change is saved
-abbrev pub IsRowSaved : List (Vec ℕ Global) → List Saved → ℕ → ℕ → List ℕ → Type 0
-IsRowSaved lines numbers line at row = (k : ℕ) → k < length row → (number_at (length row) (line_at lines line) at k ≡ slice_index row k) ⊎ IsSavedIn numbers line (at * length row + k)
+-- lowering a number to another one that is no less, or raising it to one that is no greater, leaves it as it is
+abbrev pub Stays : Way → ℕ → ℕ → Type 0
+Stays Lowered number other = number ≤ other
+Stays Raised number other = other ≤ number
+
+-- each number of the row that joining another row changes is saved
+abbrev pub IsRowSaved : Way → List (Vec ℕ Global) → List Saved → ℕ → ℕ → List ℕ → Type 0
+IsRowSaved way lines numbers line at row = (k : ℕ) → k < length row → Stays way (number_at (length row) (line_at lines line) at k) (slice_index row k) ⊎ IsSavedIn numbers line (at * length row + k)
 
 -- some of the rows before the top are saved; where one stands before them, its number for the session is as low as this already
 pub record IsTailSaved (lines : List (Vec ℕ Global)) (numbers : List Saved) (line session number : ℕ) (row : List ℕ) (top : ℕ) : Type 0 where
   pub stop : ℕ
   pub order : stop ≤ top
-  pub rows : (at : ℕ) → stop ≤ at → at < top → IsRowSaved lines numbers line at row
+  pub rows : (at : ℕ) → stop ≤ at → at < top → IsRowSaved Lowered lines numbers line at row
   pub before : (stop ≡ 0) ⊎ (number_at (length row) (line_at lines line) (stop - 1) session ≤ number)
 
 -- some of the rows from this one on are saved; where one stands behind them, its number for the session is above this already
 pub record IsSpanSaved (lines : List (Vec ℕ Global)) (numbers : List Saved) (line session number : ℕ) (row : List ℕ) (from rows : ℕ) : Type 0 where
   pub stop : ℕ
   pub order : (from ≤ stop) × (stop ≤ rows)
-  pub each : (at : ℕ) → from ≤ at → at < stop → IsRowSaved lines numbers line at row
+  pub each : (at : ℕ) → from ≤ at → at < stop → IsRowSaved Raised lines numbers line at row
   pub behind : (stop ≡ rows) ⊎ (number < number_at (length row) (line_at lines line) stop session)
 
 -- in each session the rows before its top

@@ -1,8 +1,8 @@
 // The numbers that additions write over, so that a graph can be taken back to a mark.
-ghost use Rattle.std.specs.Prelude.{◌≡◌, ◌≢◌, ℕ, ◌+◌, ◌*◌, ◌<◌, ◌≤◌, [], ◌∷◌, All, IfOk, OnOk, length, set, take, drop, slice_index};
+ghost use Rattle.std.specs.Prelude.{◌≡◌, ◌≢◌, ◌↔◌, ℕ, ◌+◌, ◌*◌, ◌<◌, ◌≤◌, [], ◌∷◌, All, IfOk, IsTrue, OnOk, length, set, take, drop, slice_index};
 ghost use Rattle.session_clocks.specs.Rows.{line_at};
 ghost use Rattle.session_clocks.specs.Sweeps.{FitTops, FitSpans, AreAsLong};
-ghost use Rattle.session_clocks.specs.SavedNumbers.{place_in, IsWithin, IsMoreOf, since, had, IsRowSaved, IsTailSaved, IsSpanSaved, AreTailsSaved, AreSpansSaved};
+ghost use Rattle.session_clocks.specs.SavedNumbers.{Stays, place_in, IsWithin, IsMoreOf, since, had, IsRowSaved, IsTailSaved, IsSpanSaved, AreTailsSaved, AreSpansSaved};
 
 use crate::rows::line;
 use std::alloc::Global;
@@ -14,6 +14,13 @@ pub(crate) struct Saved {
     pub line: usize,
     pub place: usize,
     pub number: u64,
+}
+
+/// What joining another row makes of a row's numbers.
+#[derive(Clone, Copy, Debug)]
+pub(crate) enum Way {
+    Lowered,
+    Raised,
 }
 
 /// How many arcs there were when a mark was set, and how many saved numbers of each kind.
@@ -117,24 +124,35 @@ impl Trail {
     }
 }
 
-/// Saves the numbers of one row of a line that differ from the row that is joined into it.
+/// Whether joining the other number leaves the number as it is.
+fn stays(way: Way, number: u64, other: u64) -> bool
+    ensures { IsTrue result ↔ Stays way number other }
+{
+    match way {
+        Way::Lowered => number <= other,
+        Way::Raised => other <= number,
+    }
+}
+
+/// Saves the numbers of one row of a line that joining the other row changes.
 fn save_row(
     saved: &mut Vec<Saved>,
     lines: &[Vec<u64>],
     at_line: usize,
     at: usize,
+    way: Way,
     row: &[u64],
 ) -> Result<(), NoMemory>
     requires line { at_line < length lines.now }
     requires within { at * length row.now + length row.now ≤ length (line_at lines.now at_line) }
     ensures more { IsMoreOf lines.now saved.old.items saved.new.items }
-    ensures all { OnOk result (IsRowSaved lines.now (since saved.old.items saved.new.items) at_line at row.now) }
+    ensures all { OnOk result (IsRowSaved way lines.now (since saved.old.items saved.new.items) at_line at row.now) }
 {
     let numbers = line(lines, at_line);
     let from = at * row.len();
     for k in 0..row.len() {
         let number = numbers[from + k];
-        if number == row[k] {
+        if stays(way, number, row[k]) {
             continue;
         }
         saved.push(Saved {
@@ -168,7 +186,7 @@ fn save_tail(
         if numbers[i * width + session] <= end.number {
             break;
         }
-        save_row(saved, lines, at_line, i, row)?;
+        save_row(saved, lines, at_line, i, Way::Lowered, row)?;
     }
     Ok(())
 }
@@ -197,7 +215,7 @@ fn save_span(
         if start.number < numbers[i * width + session] {
             break;
         }
-        save_row(saved, lines, at_line, i, row)?;
+        save_row(saved, lines, at_line, i, Way::Raised, row)?;
     }
     Ok(())
 }

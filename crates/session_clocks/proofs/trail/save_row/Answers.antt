@@ -19,5 +19,5 @@ loop-k-preserved c =
     let from : IsSavedFrom lines (record { line = c.args.at_line; place = c.args.at * length c.args.row.now + k; number = number }) = ((c.requires.line, omega (arith, c.loop-k-test.true, c.requires.within)), ap (λ numbers. get_or numbers (c.args.at * length c.args.row.now + k) 0) c.line-numbers.ensures) in
     record {
       more = subst (λ items. IsMoreOf lines old items) (sym c.in_ok-push.ensures.items) (IsMoreOf-push lines old mid _ from c.loop-k.invariant.more);
-      all = subst (λ items. AreSavedBelow lines (since old items) c.args.at_line c.args.at c.args.row.now (k + 1)) (sym c.in_ok-push.ensures.items) (AreSavedBelow-save lines old mid c.args.at_line c.args.at c.args.row.now k number from c.loop-k.invariant.more c.loop-k.invariant.all);
+      all = subst (λ items. AreSavedBelow c.args.way lines (since old items) c.args.at_line c.args.at c.args.row.now (k + 1)) (sym c.in_ok-push.ensures.items) (AreSavedBelow-save c.args.way lines old mid c.args.at_line c.args.at c.args.row.now k number from c.loop-k.invariant.more c.loop-k.invariant.all);
     }

@@ -1,5 +1,6 @@
 use Rattle.std.proofs.Common.{arith, ◌-◌, inl, inr}
 use Rattle.std.proofs.lemmas.Bool.{cases_eq}
+use Rattle.session_clocks.specs.declared.trail.Way.TheVariants.{Lowered}
 use Rattle.session_clocks.proofs.Trails.{IsMoreOf-both, rows-more}
 use Rattle.session_clocks.proofs.trail.save_tail.Goals as goal
 
@@ -14,6 +15,6 @@ loop-i-preserved c =
     let new = c.save_row.new.saved.items in
     record {
       more = IsMoreOf-both lines old mid new c.loop-i.invariant.more c.save_row.ensures.more;
-      rows = rows-more lines old mid new c.loop-i.invariant.more c.save_row.ensures.more c.args.at_line c.args.row.now c.loop-i.i c.args.top (c.loop-i.i - 1) (c.loop-i.i - 1) c.args.top
+      rows = rows-more lines old mid new c.loop-i.invariant.more c.save_row.ensures.more Lowered c.args.at_line c.args.row.now c.loop-i.i c.args.top (c.loop-i.i - 1) (c.loop-i.i - 1) c.args.top
           (λ k above below. elim (cases_eq k (c.loop-i.i - 1)) [ inl same ↦ inl same | inr apart ↦ inr (omega arith, below) ]) c.in_ok-save_row.ensures.all c.loop-i.invariant.rows;
     }
