@@ -17,7 +17,7 @@ import sys
 import time
 
 sys.path.insert(0, os.path.join(os.path.dirname(os.path.abspath(__file__)), "../../bench/model"))
-from judge import Model, OK, REFUSALS, SEARCHING, command_of, text  # noqa: E402
+from judge import Model, OK, REFUSALS, SEARCHING, command_of  # noqa: E402
 from plain_verdicts import Relation, cut_of, has_order  # noqa: E402
 
 MOST = 200000  # fronts that are tried

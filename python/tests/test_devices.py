@@ -4,7 +4,7 @@ import os
 import tempfile
 import unittest
 
-from .built import TOP, WORKED, path_of
+from .built import WORKED, path_of
 
 
 import failing_devices

@@ -12,7 +12,7 @@ import time
 import unittest
 from contextlib import suppress
 
-from zanteyard import FENCE, AbortedError, AuditClient, Auditor, AuditServer, LiveAuditor, OutcomeUnknownError
+from zanteyard import FENCE, AbortedError, Auditor, AuditServer, LiveAuditor, OutcomeUnknownError
 from zanteyard import StoreUnfitError
 from zanteyard.program._auditor import PROGRAM
 from zanteyard.trial.postgres_server import PostgresServer, program

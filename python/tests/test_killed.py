@@ -17,7 +17,7 @@ from unittest import mock
 
 from zanteyard import Auditor, AuditServer, LiveAuditor, Policy, Session
 from zanteyard.stores._commit_status import find_out
-from zanteyard.core._own_keys import FENCE, MARK, is_own
+from zanteyard.core._own_keys import FENCE, MARK
 from zanteyard.program._auditor import PROGRAM
 from zanteyard.trial.postgres_server import PostgresServer, program
 from zanteyard.trial.workloads import Nothing

@@ -8,8 +8,8 @@ import threading
 import time
 import unittest
 
-from zanteyard import FENCE, AbortedError, Auditor, ProgramEndedError, FullError, LiveAuditor, Logged, NoCutError
-from zanteyard import NoMemoryError, Policy, RefusedError, audited
+from zanteyard import FENCE, AbortedError, Auditor, FullError, LiveAuditor, Logged, NoCutError
+from zanteyard import NoMemoryError, Policy, audited
 from zanteyard import from_start, reasons, smaller, words
 from zanteyard.core._own_keys import FLAG, MARK
 from zanteyard.program._auditor import PROGRAM

@@ -13,7 +13,7 @@ from zanteyard.scripts._running import ScriptRun
 from zanteyard.scripts._times import ScriptTimes, read_times
 from zanteyard.program._auditor import PROGRAM
 from zanteyard.promises._asking import KEYS, Asking
-from zanteyard.promises._kinds import ALL, ASKED, IMPLIED, PREFIX, SERIALIZABLE, SNAPSHOT, STRICT, weaker
+from zanteyard.promises._kinds import ALL, ASKED, IMPLIED, SERIALIZABLE, SNAPSHOT, STRICT, weaker
 from zanteyard.promises._times import TIME_KEYS, Timeline
 
 from .plain_promises import COMMITTED, DEFINITIONS, generated, has_order, ids_of, is_pending, script_of

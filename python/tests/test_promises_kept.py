@@ -1,6 +1,5 @@
 """Audits for snapshot isolation with a journal: the history is kept as it was offered, with the
 promise."""
-import contextlib
 import os
 import random
 import unittest

@@ -3,7 +3,6 @@ and the form of statements are."""
 import glob
 import os
 import tempfile
-import threading
 import unittest
 from unittest import mock
 

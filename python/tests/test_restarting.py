@@ -5,7 +5,6 @@ import random
 import signal
 import subprocess
 import sys
-import time
 import unittest
 
 from zanteyard import RATHER_WAIT, Auditor, ProgramEndedError, LiveAuditor, Logged, NoCutError, Session

@@ -26,7 +26,7 @@ from zanteyard.trial.mariadb_server import MariaDBServer, mariadbd
 from zanteyard.core._outcome import RATHER_WAIT
 from zanteyard.trial.redis_server import RedisServer, redis_server
 from zanteyard.stores.levels import LEVELS
-from zanteyard.stores.sqlite import JOURNALS, SQLiteStore
+from zanteyard.stores.sqlite import SQLiteStore
 from zanteyard.stores.sqlite import prepare as prepare_sqlite
 from zanteyard.trial.store_kinds import kind_named
 from zanteyard.trial.workloads import Clients

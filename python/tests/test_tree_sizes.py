@@ -4,7 +4,7 @@ import json
 import os
 import unittest
 
-from .built import TOP, WORKED, path_of
+from .built import WORKED, path_of
 from .test_hostile_rows import replies_to
 
 import hard

@@ -13,7 +13,6 @@ from tests import watch_feed as feed
 from zanteyard.cli._commands import parser
 from zanteyard.program._binaries import PROGRAM
 from zanteyard.promises._kinds import SNAPSHOT
-from zanteyard.trial.postgres_server import program
 from zanteyard.watch._auditing import Auditing
 from zanteyard.watch.outcome._board import Board
 from zanteyard.watch._command import call_of

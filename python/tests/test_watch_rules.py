@@ -1,6 +1,5 @@
 """`zanteyard watch` in front of the applications of examples/rules.py: what they break, by name."""
 import importlib.util
-import os
 import re
 import shutil
 import tempfile
@@ -9,12 +8,11 @@ import time
 import unittest
 
 from zanteyard.program._binaries import PROGRAM
-from zanteyard.trial.postgres_server import PostgresServer, program
-from zanteyard.watch.postgres._database import Database
 from zanteyard.watch.proxy._proxy_program import proxy_path
 from zanteyard.watch._run import Plan, Run
 
 from .test_package import TOP
+from .over_postgres import OverPostgres, needs_all
 
 try:
     import psycopg2
@@ -35,24 +33,13 @@ def rules():
     return module
 
 
-@unittest.skipUnless(psycopg2 and program("initdb"), "PostgreSQL or psycopg2 is not installed")
-@unittest.skipUnless(os.path.isfile(proxy_path()), "the proxy is not built")
-@unittest.skipUnless(os.path.isfile(PROGRAM), f"{PROGRAM} is not built")
-class Rules(unittest.TestCase):
+@needs_all
+class Rules(OverPostgres):
     @classmethod
     def setUpClass(cls):
         cls.rules = rules()
-        cls.cluster = PostgresServer()
-        cls.cluster.__enter__()
-        cls.addClassCleanup(cls.cluster.__exit__)
-        cls.url = f"postgresql://postgres@/postgres?host={cls.cluster.folder}"
-        with Database(cls.url) as database:
-            database.run("ALTER SYSTEM SET wal_level = 'logical'")
-        cls.cluster.stop()
-        cls.cluster.start()
-        with Database(cls.url, options="-c search_path=public") as database:
-            for its in cls.rules.APPLICATIONS.values():
-                database.run(its.tables)
+        cls.tables = [its.tables for its in cls.rules.APPLICATIONS.values()]
+        super().setUpClass()
 
     def watch(self):
         """Begins to watch, and returns the URL for applications."""

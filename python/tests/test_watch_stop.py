@@ -11,9 +11,8 @@ import unittest
 
 from tests.waiting import wait_until
 from zanteyard.program._binaries import PROGRAM
-from zanteyard.trial.postgres_server import PostgresServer, program
-from zanteyard.watch.postgres._database import Database
-from zanteyard.watch.proxy._proxy_program import proxy_path
+
+from .over_postgres import OverPostgres, needs_all
 
 try:
     import psycopg2
@@ -43,23 +42,10 @@ def name_of(process):
     return ""
 
 
-@unittest.skipUnless(psycopg2 and program("initdb"), "PostgreSQL or psycopg2 is not installed")
-@unittest.skipUnless(os.path.isfile(proxy_path()), "the proxy is not built")
-@unittest.skipUnless(os.path.isfile(PROGRAM), f"{PROGRAM} is not built")
-class Stopped(unittest.TestCase):
-    @classmethod
-    def setUpClass(cls):
-        cls.cluster = PostgresServer()
-        cls.cluster.__enter__()
-        cls.addClassCleanup(cls.cluster.__exit__)
-        cls.url = f"postgresql://postgres:secret@/postgres?host={cls.cluster.folder}"
-        with Database(cls.url) as database:
-            database.run("ALTER SYSTEM SET wal_level = 'logical'")
-        cls.cluster.stop()
-        cls.cluster.start()
-        with Database(cls.url, options="-c search_path=public") as database:
-            database.run("CREATE TABLE stock (id int PRIMARY KEY, qty int NOT NULL)")
-            database.run("INSERT INTO stock VALUES (7, 1000)")
+@needs_all
+class Stopped(OverPostgres):
+    user = "postgres:secret"
+    tables = (*OverPostgres.tables, "INSERT INTO stock VALUES (7, 1000)")
 
     def setUp(self):
         folder = tempfile.TemporaryDirectory()

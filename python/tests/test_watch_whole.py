@@ -17,6 +17,8 @@ from zanteyard.watch.postgres._database import Database
 from zanteyard.watch.proxy._proxy_program import proxy_path
 from zanteyard.watch._run import Plan, Run
 
+from .over_postgres import OverPostgres, needs_all
+
 try:
     import psycopg2
 except ImportError:
@@ -62,24 +64,9 @@ DEFINITIONS = (
 )
 
 
-@unittest.skipUnless(psycopg2 and program("initdb"), "PostgreSQL or psycopg2 is not installed")
-@unittest.skipUnless(os.path.isfile(proxy_path()), "the proxy is not built")
-@unittest.skipUnless(os.path.isfile(PROGRAM), f"{PROGRAM} is not built")
-class Whole(unittest.TestCase):
-    @classmethod
-    def setUpClass(cls):
-        cls.cluster = PostgresServer()
-        cls.cluster.__enter__()
-        cls.addClassCleanup(cls.cluster.__exit__)
-        cls.url = f"postgresql://postgres@/postgres?host={cls.cluster.folder}"
-        with Database(cls.url) as database:
-            database.run("ALTER SYSTEM SET wal_level = 'logical'")
-        cls.cluster.stop()
-        cls.cluster.start()
-        with Database(cls.url, options="-c search_path=public") as database:
-            database.run("CREATE TABLE stock (id int PRIMARY KEY, qty int NOT NULL)")
-            database.run("CREATE TABLE beside (id int PRIMARY KEY)")
-            database.run("INSERT INTO stock VALUES (7, 1000000), (8, 1000000)")
+@needs_all
+class Whole(OverPostgres):
+    tables = (*OverPostgres.tables, "CREATE TABLE beside (id int PRIMARY KEY)", "INSERT INTO stock VALUES (7, 1000000), (8, 1000000)")
 
     def setUp(self):
         self.folder = tempfile.mkdtemp()

@@ -2,7 +2,6 @@
 import contextlib
 import io
 import os
-import shutil
 import socket
 import subprocess
 import tempfile

@@ -2,7 +2,6 @@
 process left."""
 
 import argparse
-from typing import Any
 
 from ..core._outcome import exit_status
 from ..core._verdict_kinds import Kind

@@ -1,7 +1,6 @@
 """`zanteyard demo` and `bench`: a run of clients."""
 
 import argparse
-from typing import Any
 
 from ..core._outcome import exit_status
 from ..core._verdict_kinds import Kind

@@ -2,7 +2,6 @@
 says, as text and on a page."""
 
 import argparse
-from typing import Any
 
 from ..core._outcome import exit_status
 from ..core._verdict_kinds import Kind

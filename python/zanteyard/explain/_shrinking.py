@@ -14,7 +14,7 @@ from ..core._own_keys import is_own
 from ..core._records import History, Logged, ShownId, Source
 from ..core._verdict_kinds import Kind
 from ..program._binaries import PROGRAM
-from ..promises._asking import LIMIT, longest
+from ..promises._asking import LIMIT
 from ..promises._kinds import SERIALIZABLE, Promise
 from ._anomalies import FORK, FRACTURED, SKEW, STALE, UNREPEATABLE, anomaly_in
 from ._arcs import transaction_of

@@ -1,6 +1,5 @@
 """What an auditor's program was given: offers, and what it holds until it forgets it."""
 
-import threading
 from collections import Counter
 from collections.abc import Container, Sequence
 from typing import Any
@@ -10,7 +9,7 @@ from ..core._records import ABORTED, AuditId, AuditNaming, Cut, Logged
 from ..core._store_identity import AuditedStore
 from ._tenancy import Tenancy
 from ._window import Coverage
-from ..core.errors import FullError, RefusedError
+from ..core.errors import FullError
 from ..promises._asking import begun_in, longest
 from ..promises._kinds import Promise
 from ._lines import written

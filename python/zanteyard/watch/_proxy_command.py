@@ -4,7 +4,6 @@ write is checked by the audit of `zanteyard watch`, to which it reports over a R
 import argparse
 import os
 import sys
-from typing import Any
 
 from ..core._visible import say
 from ..promises._kinds import SERIALIZABLE

@@ -1,7 +1,6 @@
 """What a server reports about itself, as far as an audit needs it."""
 
 import secrets
-from collections.abc import Sequence
 from dataclasses import dataclass
 
 from ._database import Database, DatabaseError

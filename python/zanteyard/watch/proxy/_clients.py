@@ -2,7 +2,6 @@
 program's arguments for them."""
 
 import argparse
-from typing import Any
 
 
 def add_clients(command: argparse.ArgumentParser) -> None:

@@ -9,7 +9,6 @@ import re
 from collections.abc import Iterator, Mapping, Sequence
 from typing import NamedTuple
 
-from ...core._records import AuditId
 from ...core._redacting import without_constants
 from ._described import Described
 
