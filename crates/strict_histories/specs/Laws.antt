@@ -1,8 +1,8 @@
 -- Laws of rewritten histories.
-use Rattle.std.specs.Prelude.{◌≡◌, ℕ, ◌+◌, ◌≤◌, ◌↔◌, false, List, length, Some, None}
+use Rattle.std.specs.Prelude.{◌≡◌, ℕ, ◌+◌, ◌≤◌, ◌↔◌, false, List, length, Some, None, option_map}
 use Rattle.txn.specs.declared.transactions.TxnId.{TxnId}
 use Rattle.txn.specs.Transactions.{IsFence, IsWellFormed}
-use Rattle.txn.specs.History.{session_of}
+use Rattle.txn.specs.History.{session_of, txn_at}
 use Rattle.order_check.specs.declared.remainder.Kind.{Kind}
 use Rattle.order_check.specs.Whole.{ExplainsWhole, HasPendingWhole, IsVerdictWhole}
 use Rattle.strict_histories.specs.declared.timed.TimedTxn.{TimedTxn}
@@ -20,6 +20,10 @@ RewritingKeepsPending = (timed : TimedHistory) → HasPendingWhole (untimed time
 -- The verdict by strict serializability is the rewritten history's verdict by some order.
 abbrev pub RewritingKeepsVerdict : Type 0
 RewritingKeepsVerdict = (timed : TimedHistory) (kind : Kind) → HasRoomForTimes timed → IsStrictVerdict timed kind ↔ IsVerdictWhole (strict_history timed) kind
+
+-- The transaction with an id is rewritten into the one with that id, and no others are there.
+abbrev pub RewritingGoesByPlace : Type 0
+RewritingGoesByPlace = (timed : TimedHistory) (id : TxnId) → txn_at (strict_history timed) id ≡ option_map (strict_txn timed id) (timed_at timed id)
 
 -- A rewritten history has as many sessions, and each as many transactions.
 abbrev pub RewritingKeepsCounts : Type 0

@@ -1,5 +1,5 @@
 //! Laws of rewritten histories. The functions do nothing.
-ghost use Rattle.strict_histories.specs.Laws.{SameOrdersRewritten, RewritingKeepsPending, RewritingKeepsVerdict, RewritingKeepsCounts, RewritingAddsFew, RewritingIsWellFormed};
+ghost use Rattle.strict_histories.specs.Laws.{SameOrdersRewritten, RewritingGoesByPlace, RewritingKeepsPending, RewritingKeepsVerdict, RewritingKeepsCounts, RewritingAddsFew, RewritingIsWellFormed};
 
 /// The orders that explain a history and keep real time are those that explain the rewritten history.
 pub fn same_orders_rewritten()
@@ -14,6 +14,11 @@ pub fn rewriting_keeps_pending()
 /// The verdict by strict serializability is the rewritten history's verdict by some order.
 pub fn rewriting_keeps_verdict()
     ensures { RewritingKeepsVerdict }
+{}
+
+/// The transaction with an id is rewritten into the one with that id.
+pub fn rewriting_goes_by_place()
+    ensures { RewritingGoesByPlace }
 {}
 
 /// A rewritten history has as many sessions, and each as many transactions.

@@ -9,7 +9,7 @@ use txn::{NUMBERS, Sequence, Txn};
 const SESSIONS: usize = 256;
 
 /// Whether each key of the transaction is below 2^62.
-fn has_low_keys(txn: &Txn) -> bool
+pub fn has_low_keys(txn: &Txn) -> bool
     ensures { IsTrue result ↔ HasLowKeys txn.now }
 {
     txn.reads.as_slice().iter().all(|read| read.0 < KEYS)

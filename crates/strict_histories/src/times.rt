@@ -5,7 +5,7 @@ ghost use Rattle.strict_histories.specs.Times.{HasGoodTimes, IsFirstWrongTime};
 use crate::timed::{Span, TimedTxn};
 
 /// Whether one with this span ended before none of these began.
-fn is_timely(span: Span, txns: &[TimedTxn]) -> bool
+pub fn is_timely(span: Span, txns: &[TimedTxn]) -> bool
     ensures { IsTrue result ↔ All (λ t. ended_before span t.span ≡ false) txns.now }
 {
     txns.iter().all(|txn| !span.ended_before(txn.span))

@@ -1,0 +1,4 @@
+mod GoodParts
+mod OffersKept
+mod Refusing
+mod Timed
