@@ -29,8 +29,9 @@ type Post struct {
 	held    int // bytes that may wait
 	logs    complaints
 	wake    chan struct{}
-	takes   atomic.Bool  // reports are accepted: there is an attachment, and an audit
-	shown   atomic.Int64 // mark, for sessions; 0 without an attachment
+	hurry   chan struct{} // what waits is sent at once
+	takes   atomic.Bool   // reports are accepted: there is an attachment, and an audit
+	shown   atomic.Int64  // mark, for sessions; 0 without an attachment
 
 	lock    sync.Mutex
 	live    map[uint64]record.Connection
@@ -68,7 +69,7 @@ func NewPost(options Options, name string, held int, room Room) (*Post, error) {
 		return nil, err
 	}
 	return &Post{options: options, name: name, room: room, id: id, held: held, logs: complaints{log: options.Log},
-		wake: make(chan struct{}, 1), live: map[uint64]record.Connection{}, unseen: map[unseen]uint64{}}, nil
+		wake: make(chan struct{}, 1), hurry: make(chan struct{}, 1), live: map[uint64]record.Connection{}, unseen: map[unseen]uint64{}}, nil
 }
 
 // Auditing reports whether a watch accepts reports.
@@ -389,7 +390,7 @@ func (p *Post) send(ctx context.Context) {
 			timer.Stop()
 			return
 		case <-p.wake:
-			pause(ctx, gather)
+			p.gather(ctx)
 		case <-timer.C:
 		}
 		timer.Stop()
@@ -404,6 +405,17 @@ func (p *Post) send(ctx context.Context) {
 				break
 			}
 		}
+	}
+}
+
+// gather waits for what is sent in one message, unless a meeting waits for it.
+func (p *Post) gather(ctx context.Context) {
+	timer := time.NewTimer(gather)
+	defer timer.Stop()
+	select {
+	case <-ctx.Done():
+	case <-p.hurry:
+	case <-timer.C:
 	}
 }
 
@@ -483,4 +495,8 @@ func (p *Post) tell(it item) {
 	p.lock.Lock()
 	defer p.lock.Unlock()
 	p.put(it, 0)
+	select {
+	case p.hurry <- struct{}{}:
+	default:
+	}
 }

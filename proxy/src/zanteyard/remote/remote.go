@@ -24,8 +24,8 @@ const (
 	protocol  = 4
 	every     = 20 * time.Millisecond // between two ticks, while proxies are attached
 	seldom    = 250 * time.Millisecond
-	again     = time.Second          // between two hellos
-	gather    = 2 * time.Millisecond // how long a proxy gathers what it sends
+	again     = time.Second           // between two hellos
+	gather    = 10 * time.Millisecond // how long a proxy gathers what it sends: a message costs as much as 30 transactions
 	heartbeat = 500 * time.Millisecond
 	silence   = 3 * time.Second        // after which the other side counts as gone
 	reporting = 500 * time.Millisecond // for the answer to a COMMIT to reach a proxy, which then reports it
