@@ -268,7 +268,7 @@ func (j *joins) side(of *scope, statement map[string]any, text string) (*Form, e
 		switch {
 		case err != nil:
 			return nil, err
-		case nullable:
+		case nullable || its && of.nullable && !j.rejects(one, of):
 			return nil, maybeMissing
 		case its:
 			asked = append(asked, one)
