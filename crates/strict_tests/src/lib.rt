@@ -4,4 +4,6 @@
 #[cfg(test)]
 mod histories;
 #[cfg(test)]
+mod rounds;
+#[cfg(test)]
 mod times;
