@@ -169,6 +169,8 @@ def name_cycle(
     if not arcs:
         return None
     cycle = _Cycle(weakest(arcs), txns, name)
+    if not cycle.steps:  # of one transaction's begin and commit
+        return None
     found = cycle.named()
     if found is None and any(arc.kind == ArcKind.IN_TIME for arc in below(arcs)):
         return None

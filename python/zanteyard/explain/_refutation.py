@@ -7,7 +7,7 @@ rule out one side of a choice; the shorter of the two comes last. If there are n
 weaker one, since no more is shown than the weakest cycle.
 """
 
-from collections.abc import Callable, Mapping, Sequence
+from collections.abc import Callable, Iterable, Mapping, Sequence
 from typing import Any
 
 from ..core._records import History, Naming, ShownId
@@ -49,6 +49,19 @@ def read_refutation(
         raise UnreadableError(f"{error!r}") from error
 
 
+def _apart(arcs: Iterable[Arc]) -> list[Arc]:
+    """Those that aren't between two pieces of one transaction, which was asked about in pieces
+    because it is long. Such an arc leads from a transaction to itself, or from its commit to its
+    begin."""
+    return [
+        arc
+        for arc in arcs
+        if arc.kind != ArcKind.IN_SESSION
+        or transaction_of(arc.start) != transaction_of(arc.end)
+        or (isinstance(arc.start, Event) and arc.start.what == "begin" and arc.start != arc.end)
+    ]
+
+
 class _Reading:
     """Reads one refutation, item by item."""
 
@@ -81,7 +94,7 @@ class _Reading:
                 first, second = (self._case(choice, 1, facts), self._case(choice, 2, facts))
                 return Explanation(self.words.between(choice), cases=(first, second))
             elif kind == "cycle":
-                return self._circle([self._arc(arc, facts) for arc in rest[0]], facts)
+                return self._circle(_apart(self._arc(arc, facts) for arc in rest[0]), facts)
             else:
                 return self._wrong_read(rest)
 
@@ -104,7 +117,7 @@ class _Reading:
         """The rest of a cycle, from the end of the arc that it rules out to its start."""
         at = next(at for at, arc in enumerate(cycle) if self._ends(arc) == ruled_out)
         rest = [*cycle[at + 1 :], *cycle[:at]]
-        return merged([self._arc(arc, facts) for arc in rest], self.name)
+        return merged(_apart(self._arc(arc, facts) for arc in rest), self.name)
 
     def _forced(self, choice: Choice, side: int, needs: Sequence[Arc]) -> Arc:
         (first, *more) = needs

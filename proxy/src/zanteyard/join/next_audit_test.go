@@ -94,7 +94,7 @@ func TestNobodyBypassesWhileOneIsAway(t *testing.T) {
 		b.tell(1, 0, record.Transaction{Number: 1001, Known: b.now, Unaudited: true, Did: record.Did{Writes: 1, Written: 3}})
 		its = b.totals()
 		if its.Outside != 0 || its.Untold != 0 || b.core.counts.awaited != 0 || its.RowsWritten.All != 3 ||
-			its.RowsWritten.NotChecked[betweenAudits] != 3 {
+			its.RowsWritten.NotChecked[notConnected] != 3 {
 			t.Errorf("one was away: %v; counted are %+v", isApart, its)
 		}
 	}

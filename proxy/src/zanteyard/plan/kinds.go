@@ -235,7 +235,7 @@ func (m *maker) wrapped(p *Plan, stmt statement, kind Kind, name string, body no
 	p.Inner = m.query(stmt, inner, query, start)
 	p.insertions, p.Inner.insertions = p.Inner.insertions, nil
 	p.positions, p.Inner.positions = p.Inner.positions, nil
-	p.sample, p.relations = p.Inner.sample, p.Inner.relations
+	p.sample, p.inserted, p.relations = p.Inner.sample, p.Inner.inserted, p.Inner.relations
 	p.Inner.sample, p.Inner.relations = "", nil
 	p.Inner.Asked, p.Inner.asked = false, nil // its parameters come later
 	if p.Inner.misplaced != nil {
