@@ -1,6 +1,10 @@
 package condition
 
-import "zanteyard/catalog"
+import (
+	"sort"
+
+	"zanteyard/catalog"
+)
 
 // A part of a condition that isn't followed held of each row of the result. If it depends on nothing but some of the row's
 // columns, it would hold of any other row with the same values there. So what is asked for is the rest of the condition, and
@@ -26,6 +30,7 @@ func (j *joins) likewise(conditions []any, of *scope, p *parted, locks bool) boo
 	if len(conditions) == 0 || j.hasKey(columns, of) {
 		return len(conditions) == 0
 	}
+	sort.Slice(columns, func(i, k int) bool { return columns[i].Number < columns[k].Number }) // a tree's parts come in any order
 	r := &reader{form: p.form, joins: j}
 	for _, column := range columns {
 		if column.Generated || column.Collation == catalog.NotDeterministic || r.elsewhere(column, symbol{name: "=", qualified: true}) != nil {

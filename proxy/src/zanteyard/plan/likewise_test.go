@@ -29,7 +29,7 @@ func TestFollowsLikewise(t *testing.T) {
 		{"SELECT n FROM issue i WHERE EXISTS (SELECT 1 FROM person a WHERE a.id = i.id + n)", "a subquery"},
 		{"SELECT count(*) FROM issue i WHERE n IN (SELECT id FROM person)", "a column of another table that isn't in its key"},
 		{"SELECT a.name, i.n FROM issue i JOIN person a ON a.id = i.author_id WHERE i.n + i.project_id > 3 AND i.project_id IN (SELECT id FROM project)",
-			"issue WHERE author_id IN (9) AND n = 5 AND project_id = 5: 1,2"},
+			"issue WHERE author_id IN (9) AND project_id = 5 AND n = 5: 1,2"},
 		{"SELECT n FROM issue i WHERE x IN (SELECT id FROM person)", "a subquery"}, // equal numbers may differ
 		{"UPDATE issue SET n = 1 WHERE n IN (SELECT id FROM person)", "a subquery"},
 	} {
