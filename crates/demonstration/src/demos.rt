@@ -5,6 +5,7 @@ ghost use Rattle.demonstration.specs.declared.commands.Command.{Command};
 ghost use Rattle.demonstration.specs.declared.texts.Shown.{Shown};
 ghost use Rattle.demonstration.specs.Commands.{AsksFor, IsAllowed};
 ghost use Rattle.demonstration.specs.Runs.{IsRun};
+ghost use Rattle.demonstration.specs.Shows.{OneFailed, WritesFront, WritesRun};
 ghost use Rattle.demonstration.specs.Texts.{demo_text};
 
 use crate::commands::{Command, LONGEST_COMMAND, command_of};
@@ -79,7 +80,7 @@ pub fn demo<R: Threads + Wait + Sync, S: ByteSource, W: ByteSink>(
     sink: &mut W,
 ) -> Result<(), DemoFailure>
     // The input asks for a run, and what that comes to is written.
-    ensures written { OnOk result ((shown : Shown) × IsRun shown × IfSome (S.remaining source.old) (λ input. (command : Command) × AsksFor input command × (shown.fault ≡ command.fault)) × Appends (W.contents sink.old) (W.contents sink.new) (demo_text shown)) }
+    ensures written { OnOk result (WritesRun (S.remaining source.old) (W.contents sink.old) (W.contents sink.new)) }
 
     // The input asks for none.
     ensures usage { IsErrOf result DemoFailure.Usage → IfSome (S.remaining source.old) (λ input. (command : Command) → ¬ AsksFor input command) }
@@ -87,11 +88,11 @@ pub fn demo<R: Threads + Wait + Sync, S: ByteSource, W: ByteSink>(
 
     // Nothing is written where the source failed, and where the sink did a proper front of the text.
     ensures source_failed { S.faults source.old < S.faults source.new → Keeps (W.contents sink.old) (W.contents sink.new) }
-    ensures front { W.faults sink.old < W.faults sink.new → ((shown : Shown) × (n : ℕ) × IsRun shown × IfSome (S.remaining source.old) (λ input. (command : Command) × AsksFor input command × (shown.fault ≡ command.fault)) × (n < length (demo_text shown)) × Appends (W.contents sink.old) (W.contents sink.new) (take n (demo_text shown))) }
+    ensures front { W.faults sink.old < W.faults sink.new → WritesFront (S.remaining source.old) (W.contents sink.old) (W.contents sink.new) }
     ensures no_memory { IsErrOf result DemoFailure.NoMemory → Keeps (W.contents sink.old) (W.contents sink.new) }
 
     // One of the devices failed, once, where that is the answer, and else none did.
-    ensures device { IsErrOf result DemoFailure.Device → ((S.faults source.new ≡ S.faults source.old + 1) × (W.faults sink.new ≡ W.faults sink.old)) ⊎ ((S.faults source.new ≡ S.faults source.old) × (W.faults sink.new ≡ W.faults sink.old + 1)) }
+    ensures device { IsErrOf result DemoFailure.Device → OneFailed (S.faults source.old) (S.faults source.new) (W.faults sink.old) (W.faults sink.new) }
     ensures none_failed { ¬ IsErrOf result DemoFailure.Device → (S.faults source.new ≡ S.faults source.old) × (W.faults sink.new ≡ W.faults sink.old) }
 {
     let command = read_command(alloc, source)?;

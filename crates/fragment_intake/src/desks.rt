@@ -1,7 +1,7 @@
 ghost use Rattle.std.specs.Prelude.{◌≡◌, ◌+◌, ◌<◌, ◌≤◌, ◌^◌, ◌++◌, ◌∷◌, [], List, length, IfOk, MatchOption, MatchResult};
 ghost use Rattle.crossbeam_queue.specs.Fifo.{Held};
 ghost use Rattle.fragment_intake.specs.declared.rules.Parcel.{Parcel};
-ghost use Rattle.fragment_intake.specs.Collectors.{parcel, AreCollectorsOf, Counts};
+ghost use Rattle.fragment_intake.specs.Collectors.{AreCollectorsOf, Counts, HasSubmitted, HasTaken, LeavesOf};
 ghost use Rattle.fragment_intake.specs.Delivers.{of, seen, collector, Settled, Waits};
 
 use crate::rules::{Item, Line, Parcel, Puts, Roles, Takes, View};
@@ -107,7 +107,7 @@ impl Desk {
         requires desk { pass.old.0 ≡ self.now.0 }
         requires few { length pass.old.2 < 2 ^ 48 }
         ensures same { (pass.new.0 ≡ pass.old.0) × (pass.new.1 ≡ pass.old.1) }
-        ensures submitted { MatchResult result (λ _. pass.new.2 ≡ pass.old.2 ++ parcel pass.old.1 (length pass.old.2) item ∷ []) (λ x. (x ≡ item) × (pass.new.2 ≡ pass.old.2) × Held self.now.1 (Waits (collector pass.old.1 pass.old.2))) }
+        ensures submitted { MatchResult result (λ _. HasSubmitted pass.old.1 pass.old.2 item pass.new.2) (λ x. (x ≡ item) × (pass.new.2 ≡ pass.old.2) × Held self.now.1 (Waits (collector pass.old.1 pass.old.2))) }
     {
         let parcel = Parcel {
             collector: pass.who,
@@ -133,7 +133,7 @@ impl Desk {
     pub fn take<R: Wait>(&self, rt: &R, pass: &mut AuditorPass) -> Option<Parcel>
         requires { pass.old.0 ≡ self.now.0 }
         ensures same { pass.new.0 ≡ pass.old.0 }
-        ensures taken { MatchOption result ((pass.new.1 ≡ pass.old.1) × Held 0 (Settled (seen [] 1 pass.old.1))) (λ x. (pass.new.1 ≡ pass.old.1 ++ x ∷ []) × (x.collector < 4) × (x.place ≡ length (of x.collector pass.old.1))) }
+        ensures taken { MatchOption result ((pass.new.1 ≡ pass.old.1) × Held 0 (Settled (seen [] 1 pass.old.1))) (λ next. HasTaken pass.old.1 next pass.new.1) }
     {
         let parcel = self.line.pop_as::<Takes, R>(rt, &mut pass.pass)?;
         count(&mut pass.taken, parcel.collector);
@@ -146,7 +146,7 @@ impl Desk {
         requires auditor { auditor.0 ≡ self.0 }
         ensures submitted { result.submitted ≡ length collectors.0.2 ∷ length collectors.1.2 ∷ length collectors.2.2 ∷ length collectors.3.2 ∷ [] }
         ensures taken { Counts result.taken auditor.1 }
-        ensures left { (left : List Parcel) × Counts result.left left × (of 0 (auditor.1 ++ left) ≡ collectors.0.2) × (of 1 (auditor.1 ++ left) ≡ collectors.1.2) × (of 2 (auditor.1 ++ left) ≡ collectors.2.2) × (of 3 (auditor.1 ++ left) ≡ collectors.3.2) }
+        ensures left { LeavesOf result.left auditor.1 collectors.0.2 collectors.1.2 collectors.2.2 collectors.3.2 }
     {
         let Desk { line } = self;
         let (first, second, third, fourth) = collectors;

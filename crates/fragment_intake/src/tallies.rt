@@ -1,7 +1,7 @@
 ghost use Rattle.std.specs.Prelude.{◌≡◌, ◌+◌, ◌<◌, ◌++◌, ◌∷◌, [], List, length, slice_set, slice_index};
 ghost use Rattle.crossbeam_queue.specs.Passes.{view, IsPassOf};
 ghost use Rattle.fragment_intake.specs.declared.rules.Parcel.{Parcel};
-ghost use Rattle.fragment_intake.specs.Collectors.{Counts, IsCollectorOf};
+ghost use Rattle.fragment_intake.specs.Collectors.{Counts, IsCollectorOf, LeavesOf};
 ghost use Rattle.fragment_intake.specs.Delivers.{of, Tells};
 
 use crate::desks::{AuditorPass, CollectorPass};
@@ -89,7 +89,7 @@ pub fn settle_up<R: Wait>(
     requires auditor { auditor.0 ≡ line.table.shared.table_id }
     ensures submitted { result.submitted ≡ length first.2 ∷ length second.2 ∷ length third.2 ∷ length fourth.2 ∷ [] }
     ensures taken { Counts result.taken auditor.1 }
-    ensures left { (left : List Parcel) × Counts result.left left × (of 0 (auditor.1 ++ left) ≡ first.2) × (of 1 (auditor.1 ++ left) ≡ second.2) × (of 2 (auditor.1 ++ left) ≡ third.2) × (of 3 (auditor.1 ++ left) ≡ fourth.2) }
+    ensures left { LeavesOf result.left auditor.1 first.2 second.2 third.2 fourth.2 }
 {
     let AuditorPass { mut pass, taken } = auditor;
     let submitted = [

@@ -3,11 +3,9 @@ ghost use Rattle.std.specs.Option.{option_to_list};
 ghost use Rattle.order_check.specs.Effort.{IsEffort};
 ghost use Rattle.polygraph.specs.Solving.{IsLawful};
 ghost use Rattle.report_queue.specs.Reports.{IsBefore};
-ghost use Rattle.round_state.specs.Opening.{fresh_state};
-ghost use Rattle.round_state.specs.Runs.{Holds};
-ghost use Rattle.live_audit.specs.Live.{Live};
-ghost use Rattle.live_audit.specs.Moments.{accepted_counts, HasTaken, IsLook, IsRoundMade, IsTimed, IsTurn, Turns};
-ghost use Rattle.live_audit.specs.Running.{AreEnded, HasComeTo, HasEnded, HasMoved, HasOutcome, HasPublished, IsBetweenRounds, IsLastCount, IsLastSkipped, IsRound, CanBeTold, IsSaid, told_in, reports_in};
+ghost use Rattle.live_audit.specs.Moments.{accepted_counts, IsLook, IsRoundMade, IsTimed, IsTurn, Turns};
+ghost use Rattle.live_audit.specs.Running.{AreEnded, HasEnded, HasOutcome, HasPublished, IsBetweenRounds, IsRound, CanBeTold, IsSaid, told_in, reports_in};
+ghost use Rattle.live_audit.specs.Sides.{FromFresh, HasMovedBy, HasSamePlaces, HasTakenBy, IsLastOf, IsLiveBy, Wherever};
 ghost use Rattle.live_audit.specs.Truth.{IsTrueEntry, accepted_history};
 
 use crate::live_core::Core;
@@ -101,7 +99,7 @@ fn take_one<R: Wait>(rt: &R, desk: &Desk, side: &mut AuditorSide, running: &mut 
     requires desk { side.old.pass.0 ≡ desk.now.0 }
     requires told { HasPublished running.old.core side.old.sender.sent side.old.seat.published }
     requires ended { AreEnded running.old.ended side.old.pass.1 }
-    ensures moved { HasMoved running.old.core side.old.pass.1 side.old.sender.sent running.new.core side.new.pass.1 side.new.sender.sent }
+    ensures moved { HasMovedBy running.old.core side.old running.new.core side.new }
     ensures told { HasPublished running.new.core side.new.sender.sent side.new.seat.published }
     ensures round { running.new.core.engine.asked ≡ running.old.core.engine.asked }
     ensures ended { AreEnded running.new.ended side.new.pass.1 }
@@ -127,12 +125,12 @@ fn take_until<R: Wait>(
     requires desk { side.old.pass.0 ≡ desk.now.0 }
     requires told { HasPublished running.old.core side.old.sender.sent side.old.seat.published }
     requires ended { AreEnded running.old.ended side.old.pass.1 }
-    ensures moved { HasMoved running.old.core side.old.pass.1 side.old.sender.sent running.new.core side.new.pass.1 side.new.sender.sent }
+    ensures moved { HasMovedBy running.old.core side.old running.new.core side.new }
     ensures told { HasPublished running.new.core side.new.sender.sent side.new.seat.published }
     ensures round { running.new.core.engine.asked ≡ running.old.core.engine.asked }
     ensures ended { AreEnded running.new.ended side.new.pass.1 }
     // No round is told of, and each parcel that is accepted is counted.
-    ensures counted { HasTaken running.old.unasked side.old.pass.1 side.old.sender.sent running.new.unasked side.new.pass.1 side.new.sender.sent }
+    ensures counted { HasTakenBy running.old.unasked side.old running.new.unasked side.new }
     ensures same { (side.new.pass.0 ≡ side.old.pass.0) × (side.new.sender.ring ≡ side.old.sender.ring) × (side.new.seat ≡ side.old.seat) }
 {
     let mut patience = Patience::new();
@@ -159,13 +157,13 @@ fn answer<'s, E, R: Threads + Wait, S: Solver + Sync>(
     requires desk { side.old.pass.0 ≡ means.now.desk.now.0 }
     requires told { HasPublished running.old.core side.old.sender.sent side.old.seat.published }
     requires ended { AreEnded running.old.ended side.old.pass.1 }
-    ensures moved { HasMoved running.old.core side.old.pass.1 side.old.sender.sent running.new.core side.new.pass.1 side.new.sender.sent }
+    ensures moved { HasMovedBy running.old.core side.old running.new.core side.new }
     ensures told { HasPublished running.new.core side.new.sender.sent side.new.seat.published }
     ensures round { running.new.core.engine.asked ≡ running.old.core.engine.asked }
     ensures ended { AreEnded running.new.ended side.new.pass.1 }
     ensures same { (side.new.pass.0 ≡ side.old.pass.0) × (side.new.sender.ring ≡ side.old.sender.ring) × (side.new.seat ≡ side.old.seat) }
     // No round is told of, and each parcel that is accepted is counted.
-    ensures counted { HasTaken running.old.unasked side.old.pass.1 side.old.sender.sent running.new.unasked side.new.pass.1 side.new.sender.sent }
+    ensures counted { HasTakenBy running.old.unasked side.old running.new.unasked side.new }
     ensures lawful { IsLawful problem.known.parts running.old.core.search.budget running.old.core.search.depth result }
 {
     let (budget, depth) = running.core.search();
@@ -201,11 +199,11 @@ fn make_round_meanwhile<'s, E, R: Threads + Wait, S: Solver + Sync>(
     requires word { side.old.seat.word ≡ means.now.latest.now }
     requires between { IsBetweenRounds running.old.core side.old.sender.sent side.old.seat.published }
     requires ended { AreEnded running.old.ended side.old.pass.1 }
-    ensures moved { HasMoved running.old.core side.old.pass.1 side.old.sender.sent running.new.core side.new.pass.1 side.new.sender.sent }
+    ensures moved { HasMovedBy running.old.core side.old running.new.core side.new }
     ensures between { IsBetweenRounds running.new.core side.new.sender.sent side.new.seat.published }
     ensures ended { AreEnded running.new.ended side.new.pass.1 }
-    ensures made { (most sessions limit : ℕ) → HasComeTo most sessions limit running.old.core side.old.pass.1 side.old.sender.sent → IsRoundMade sessions side.old.pass.1 side.old.sender.sent running.new.unasked side.new.pass.1 side.new.sender.sent }
-    ensures same { (side.new.pass.0 ≡ side.old.pass.0) × (side.new.sender.ring ≡ side.old.sender.ring) × (side.new.seat.word ≡ side.old.seat.word) }
+    ensures made { Wherever running.old.core side.old (λ sessions. IsRoundMade sessions side.old.pass.1 side.old.sender.sent running.new.unasked side.new.pass.1 side.new.sender.sent) }
+    ensures same { HasSamePlaces side.old side.new }
 {
     running.unasked = 0;
     match running.core.begin() {
@@ -231,9 +229,9 @@ fn make_round<E, R: Wait, S: Solver>(
     requires word { side.old.seat.word ≡ means.now.latest.now }
     requires between { IsBetweenRounds running.old.core side.old.sender.sent side.old.seat.published }
     ensures round { IsRound running.old.core side.old.sender.sent result running.new.core side.new.sender.sent }
-    ensures moved { HasMoved running.old.core side.old.pass.1 side.old.sender.sent running.new.core side.new.pass.1 side.new.sender.sent }
+    ensures moved { HasMovedBy running.old.core side.old running.new.core side.new }
     ensures between { IsBetweenRounds running.new.core side.new.sender.sent side.new.seat.published }
-    ensures counts { (most sessions limit : ℕ) → HasComeTo most sessions limit running.old.core side.old.pass.1 side.old.sender.sent → HasOutcome (accepted_counts sessions side.old.pass.1 side.old.sender.sent) side.old.sender.sent side.new.sender.sent }
+    ensures counts { Wherever running.old.core side.old (λ sessions. HasOutcome (accepted_counts sessions side.old.pass.1 side.old.sender.sent) side.old.sender.sent side.new.sender.sent) }
     ensures same { (side.new.pass ≡ side.old.pass) × (side.new.sender.ring ≡ side.old.sender.ring) × (side.new.seat.word ≡ side.old.seat.word) × (running.new.ended ≡ running.old.ended) }
 {
     let (outcome, more) = running.make_round(means.alloc, means.solver, means.effort.workers);
@@ -252,11 +250,11 @@ fn turn<'s, E, R: Threads + Wait, S: Solver + Sync>(
     requires word { side.old.seat.word ≡ means.now.latest.now }
     requires between { IsBetweenRounds running.old.core side.old.sender.sent side.old.seat.published }
     requires ended { AreEnded running.old.ended side.old.pass.1 }
-    ensures moved { HasMoved running.old.core side.old.pass.1 side.old.sender.sent running.new.core side.new.pass.1 side.new.sender.sent }
+    ensures moved { HasMovedBy running.old.core side.old running.new.core side.new }
     ensures between { IsBetweenRounds running.new.core side.new.sender.sent side.new.seat.published }
     ensures ended { AreEnded running.new.ended side.new.pass.1 }
-    ensures turn { (most sessions limit : ℕ) → HasComeTo most sessions limit running.old.core side.old.pass.1 side.old.sender.sent → IsTurn sessions running.old.unasked side.old.pass.1 side.old.sender.sent running.new.unasked side.new.pass.1 side.new.sender.sent }
-    ensures same { (side.new.pass.0 ≡ side.old.pass.0) × (side.new.sender.ring ≡ side.old.sender.ring) × (side.new.seat.word ≡ side.old.seat.word) }
+    ensures turn { Wherever running.old.core side.old (λ sessions. IsTurn sessions running.old.unasked side.old.pass.1 side.old.sender.sent running.new.unasked side.new.pass.1 side.new.sender.sent) }
+    ensures same { HasSamePlaces side.old side.new }
 {
     let found = take_one(means.rt, means.desk, side, running);
     if running.wants_round(found) {
@@ -278,11 +276,11 @@ fn take_all<'s, E, R: Threads + Wait, S: Solver + Sync>(
     requires word { side.old.seat.word ≡ means.now.latest.now }
     requires between { IsBetweenRounds running.old.core side.old.sender.sent side.old.seat.published }
     requires ended { AreEnded running.old.ended side.old.pass.1 }
-    ensures moved { HasMoved running.old.core side.old.pass.1 side.old.sender.sent running.new.core side.new.pass.1 side.new.sender.sent }
+    ensures moved { HasMovedBy running.old.core side.old running.new.core side.new }
     ensures between { IsBetweenRounds running.new.core side.new.sender.sent side.new.seat.published }
     ensures ended { (collector : ℕ) → collector < 4 → HasEnded collector side.new.pass.1 }
-    ensures turns { (most sessions limit : ℕ) → HasComeTo most sessions limit running.old.core side.old.pass.1 side.old.sender.sent → Turns sessions running.old.unasked side.old.pass.1 side.old.sender.sent running.new.unasked side.new.pass.1 side.new.sender.sent }
-    ensures same { (side.new.pass.0 ≡ side.old.pass.0) × (side.new.sender.ring ≡ side.old.sender.ring) × (side.new.seat.word ≡ side.old.seat.word) }
+    ensures turns { Wherever running.old.core side.old (λ sessions. Turns sessions running.old.unasked side.old.pass.1 side.old.sender.sent running.new.unasked side.new.pass.1 side.new.sender.sent) }
+    ensures same { HasSamePlaces side.old side.new }
 {
     let mut patience = Patience::new();
     for _ in means.rt.forever() {
@@ -313,16 +311,16 @@ pub fn audit_live<'s, E, R: Threads + Wait, S: Solver + Sync>(
     requires desk { side.old.pass.0 ≡ means.now.desk.now.0 }
     requires word { side.old.seat.word ≡ means.now.latest.now }
     requires fresh { (side.old.pass.1 ≡ []) × (side.old.sender.sent ≡ []) × (side.old.seat.published ≡ []) }
-    ensures live { (most sessions limit : ℕ) → Holds engine (fresh_state most sessions limit) → Live most sessions limit (record { budget = means.now.effort.budget; depth = means.now.effort.depth }) side.new.pass.1 side.new.sender.sent }
+    ensures live { FromFresh engine (λ most sessions limit. IsLiveBy means.now.effort most sessions limit side.new) }
     // Each report is true of what was accepted.
-    ensures true_reports { (most sessions limit : ℕ) → Holds engine (fresh_state most sessions limit) → All (IsTrueEntry (accepted_history sessions side.new.pass.1 side.new.sender.sent)) side.new.sender.sent }
+    ensures true_reports { FromFresh engine (λ most sessions limit. All (IsTrueEntry (accepted_history sessions side.new.pass.1 side.new.sender.sent)) side.new.sender.sent) }
     ensures ended { (collector : ℕ) → collector < 4 → HasEnded collector side.new.pass.1 }
     // The last report counts all that was accepted.
-    ensures last { (most sessions limit : ℕ) → Holds engine (fresh_state most sessions limit) → MatchResult result (λ _. IsLastCount (map length (accepted_history sessions side.new.pass.1 side.new.sender.sent)) side.new.sender.sent) (λ refusal. IsLastSkipped refusal side.new.sender.sent) }
+    ensures last { FromFresh engine (λ most sessions limit. IsLastOf sessions side.new result) }
     // Rounds are made when they are to be, each on all that was accepted by then, and the last one at the end.
-    ensures timed { (most sessions limit : ℕ) → Holds engine (fresh_state most sessions limit) → IsTimed sessions side.new.pass.1 side.new.sender.sent }
+    ensures timed { FromFresh engine (λ most sessions limit. IsTimed sessions side.new.pass.1 side.new.sender.sent) }
     ensures published { side.new.seat.published ≡ reports_in side.new.sender.sent }
-    ensures same { (side.new.pass.0 ≡ side.old.pass.0) × (side.new.sender.ring ≡ side.old.sender.ring) × (side.new.seat.word ≡ side.old.seat.word) }
+    ensures same { HasSamePlaces side.old side.new }
 {
     let core = Core::new(means.alloc, engine, means.effort.budget, means.effort.depth);
     let mut running = Running::new(core);
