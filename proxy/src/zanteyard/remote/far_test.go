@@ -35,3 +35,13 @@ func TestFarFromRedis(t *testing.T) {
 		t.Errorf("%d messages with %d transactions take %v; %d were left out", messages, items, took, p.dropped)
 	}
 }
+
+// TestWaiting: messages of one size, however long, take no more than 256 MiB of Redis if the watch doesn't read them.
+func TestWaiting(t *testing.T) {
+	for _, one := range []struct{ size, want int }{{0, backlog}, {300, backlog}, {64 << 10, 4096}, {mostBytes, 512}, {mostBytes + 1, 511}, {mostOfOne, 64}} {
+		got := waiting(one.size)
+		if got != one.want || got*one.size > 256<<20 {
+			t.Errorf("%d messages of %d bytes may wait", got, one.size)
+		}
+	}
+}

@@ -106,8 +106,17 @@ func (l *link) close() {
 
 // add appends a message to a stream, whose length is limited.
 func (l *link) add(stream string, text, signature []byte) error {
-	_, err := l.do(0, "XADD", stream, "MAXLEN", "~", backlog, "*", "m", text, "s", signature)
+	_, err := l.do(0, "XADD", stream, "MAXLEN", "~", waiting(len(text)), "*", "m", text, "s", signature)
 	return err
+}
+
+// waiting returns how many messages may wait in a stream, once one of this size is added: fewer if they are long, so that
+// Redis keeps some backlogBytes for a watch that doesn't read.
+func waiting(size int) int {
+	if size == 0 || backlogBytes/size >= backlog {
+		return backlog
+	}
+	return backlogBytes / size
 }
 
 // entry is one message of a stream.

@@ -21,22 +21,23 @@ import (
 )
 
 const (
-	protocol  = 4
-	every     = 20 * time.Millisecond // between two ticks, while proxies are attached
-	seldom    = 250 * time.Millisecond
-	again     = time.Second           // between two hellos
-	gather    = 10 * time.Millisecond // how long a proxy gathers what it sends: a message costs as much as 30 transactions
-	heartbeat = 500 * time.Millisecond
-	silence   = 3 * time.Second        // after which the other side counts as gone
-	reporting = 500 * time.Millisecond // for the answer to a COMMIT to reach a proxy, which then reports it
-	verifying = 10 * time.Second
-	gathering = silence + verifying + patience // until proxies that fed an earlier watch feed this one
-	patience  = 5 * time.Second                // with Redis and with the server
-	backlog   = 4096                           // how many messages may wait in a stream
-	mostBytes = 512 << 10                      // of a message, unless one transaction is longer: the next one waits for Redis's answer
-	mostItems = 8000                           // of a message
-	mostOfOne = 4 << 20                        // bytes of one transaction
-	leastKey  = 16
+	protocol     = 4
+	every        = 20 * time.Millisecond // between two ticks, while proxies are attached
+	seldom       = 250 * time.Millisecond
+	again        = time.Second           // between two hellos
+	gather       = 10 * time.Millisecond // how long a proxy gathers what it sends: a message costs as much as 30 transactions
+	heartbeat    = 500 * time.Millisecond
+	silence      = 3 * time.Second        // after which the other side counts as gone
+	reporting    = 500 * time.Millisecond // for the answer to a COMMIT to reach a proxy, which then reports it
+	verifying    = 10 * time.Second
+	gathering    = silence + verifying + patience // until proxies that fed an earlier watch feed this one
+	patience     = 5 * time.Second                // with Redis and with the server
+	backlog      = 4096                           // how many messages may wait in a stream
+	backlogBytes = 256 << 20                      // of these
+	mostBytes    = 512 << 10                      // of a message, unless one transaction is longer: the next one waits for Redis's answer
+	mostItems    = 8000                           // of a message
+	mostOfOne    = 4 << 20                        // bytes of one transaction
+	leastKey     = 16
 )
 
 // Options are the options that both sides need.
