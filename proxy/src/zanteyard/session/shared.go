@@ -2,6 +2,7 @@ package session
 
 import (
 	"bytes"
+	"crypto/sha256"
 	"sync"
 	"time"
 
@@ -13,17 +14,20 @@ import (
 // same, a plan that was tried on one connection may be used on another, which may be too short-lived to try it.
 // Connections that have temporary objects share nothing. Safe for use by many goroutines.
 type Shared struct {
-	lock     sync.RWMutex
-	kinds    map[string]*kind // by signature's digest
-	paused   time.Time        // until then no new connection is asked for its signature
-	entries  int              // plans of all kinds
-	patience patience
+	lock    sync.Mutex
+	catalog uint64 // of all that was tried
+	// When the younger generation is full it becomes the older one, whose plans are forgotten unless they are used in the
+	// meantime.
+	young, old map[triedOn]int
+	paused     time.Time // until then no new connection is asked for its signature
+	patience   patience
 }
 
-// kind has what was tried on connections of one signature.
-type kind struct {
-	catalog uint64
-	tried   map[*plan.Plan]int // and how many columns its statement returns, without the hidden ones, or why it isn't used
+// triedOn is a plan that was tried on connections of one signature. Its value is how many columns its statement returns,
+// without the hidden ones, or why it isn't used.
+type triedOn struct {
+	signature [sha256.Size]byte // its digest
+	plan      *plan.Plan
 }
 
 // Why a plan isn't used, in place of the number of columns: because of its cost, or of the order of rows.
@@ -32,14 +36,10 @@ const (
 	reordered = -2
 )
 
-const (
-	mostKinds  = 256
-	mostShared = 4096 // plans of a kind
-	mostOfAll  = 16384
-)
+const mostShared = 8192 // plans of a generation: as many as there may be in both generations of a plan.Cache
 
 // NewShared returns a Shared that knows nothing.
-func NewShared() *Shared { return &Shared{kinds: map[string]*kind{}, patience: newPatience()} }
+func NewShared() *Shared { return &Shared{patience: newPatience()} }
 
 // shareable reports whether a signature says everything: there are no temporary objects.
 func shareable(signature []byte) bool { return bytes.HasSuffix(signature, []byte(`, ""]`)) }
@@ -51,26 +51,21 @@ func (s *Shared) add(signature []byte, catalog uint64, u *use) {
 	}
 	s.lock.Lock()
 	defer s.lock.Unlock()
-	k := s.kinds[digest(signature)]
-	switch {
-	case k != nil && catalog < k.catalog:
+	if catalog < s.catalog {
 		return // from an old plan
-	case k == nil || catalog > k.catalog || len(k.tried) >= mostShared:
-		if k != nil {
-			s.entries -= len(k.tried)
-		} else if len(s.kinds) >= mostKinds {
-			s.kinds, s.entries = map[string]*kind{}, 0
-		}
-		k = &kind{catalog: catalog, tried: map[*plan.Plan]int{}}
-		s.kinds[digest(signature)] = k
 	}
-	if _, is := k.tried[u.plan]; !is {
-		if s.entries++; s.entries > mostOfAll {
-			k = &kind{catalog: catalog, tried: map[*plan.Plan]int{}}
-			s.kinds, s.entries = map[string]*kind{digest(signature): k}, 1
-		}
+	if catalog > s.catalog {
+		s.catalog, s.young, s.old = catalog, nil, nil
 	}
-	k.tried[u.plan] = u.own
+	s.keep(triedOn{sha256.Sum256(signature), u.plan}, u.own)
+}
+
+// keep puts a plan into the younger generation.
+func (s *Shared) keep(it triedOn, own int) {
+	if _, is := s.young[it]; !is && (s.young == nil || len(s.young) >= mostShared) {
+		s.young, s.old = map[triedOn]int{}, s.young
+	}
+	s.young[it] = own
 }
 
 // drop forgets a plan that has failed.
@@ -80,12 +75,9 @@ func (s *Shared) drop(signature []byte, p *plan.Plan) {
 	}
 	s.lock.Lock()
 	defer s.lock.Unlock()
-	if k := s.kinds[digest(signature)]; k != nil {
-		if _, is := k.tried[p]; is {
-			delete(k.tried, p)
-			s.entries--
-		}
-	}
+	it := triedOn{sha256.Sum256(signature), p}
+	delete(s.young, it)
+	delete(s.old, it)
 }
 
 // has reports whether a plan was tried on a connection of this signature, and how many columns its statement returns.
@@ -93,13 +85,17 @@ func (s *Shared) has(signature []byte, catalog uint64, p *plan.Plan) (own int, i
 	if s == nil || !shareable(signature) {
 		return 0, false
 	}
-	s.lock.RLock()
-	defer s.lock.RUnlock()
-	k := s.kinds[digest(signature)]
-	if k == nil || k.catalog != catalog {
+	it := triedOn{sha256.Sum256(signature), p}
+	s.lock.Lock()
+	defer s.lock.Unlock()
+	if s.catalog != catalog {
 		return 0, false
 	}
-	own, is = k.tried[p]
+	if own, is = s.young[it]; !is {
+		if own, is = s.old[it]; is {
+			s.keep(it, own) // it is in use: it stays
+		}
+	}
 	return own, is
 }
 
@@ -118,17 +114,9 @@ func (s *Shared) knows(catalog uint64) bool {
 	if s == nil {
 		return false
 	}
-	s.lock.RLock()
-	defer s.lock.RUnlock()
-	if clock().Before(s.paused) {
-		return false
-	}
-	for _, k := range s.kinds {
-		if k.catalog == catalog && len(k.tried) > 0 {
-			return true
-		}
-	}
-	return false
+	s.lock.Lock()
+	defer s.lock.Unlock()
+	return !clock().Before(s.paused) && s.catalog == catalog && len(s.young)+len(s.old) > 0
 }
 
 // greet asks for the connection's signature before the client may begin, if plans were tried elsewhere that it may use.

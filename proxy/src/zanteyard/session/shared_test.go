@@ -1,10 +1,13 @@
 package session
 
 import (
+	"fmt"
 	"testing"
 	"time"
 
 	"github.com/jackc/pgproto3/v2"
+
+	"zanteyard/plan"
 )
 
 // TestShared: what was tried on one connection is used for another's first statement, if its user, its search path and
@@ -102,10 +105,48 @@ func TestSharedIsDropped(t *testing.T) {
 			t.Errorf("got %s", show(got))
 		}
 	}
-	for _, k := range shared.kinds {
-		if len(k.tried) > 0 {
-			t.Errorf("a plan that has failed is still shared: %v", k.tried)
+	if len(shared.young)+len(shared.old) > 0 {
+		t.Errorf("a plan that has failed is still shared: %v, %v", shared.young, shared.old)
+	}
+}
+
+// TestSharedKeepsWhatIsInUse: what connections use again and again stays, however many other statements are tried, and on
+// connections of however many signatures. What hasn't been used for long is forgotten.
+func TestSharedKeepsWhatIsInUse(t *testing.T) {
+	shared, mine := NewShared(), []byte(`["mine", ""]`)
+	try := func(signature []byte, own int) *plan.Plan {
+		its := &plan.Plan{}
+		shared.add(signature, 1, &use{plan: its, own: own})
+		return its
+	}
+	unused := try(mine, 1)
+	var used []*plan.Plan
+	for i := 0; i < 5000; i++ { // an application may have as many statements
+		used = append(used, try(mine, i))
+	}
+	for i := 0; i < 80000; i++ {
+		if i%8 == 0 {
+			try([]byte(fmt.Sprintf(`["%d", ""]`, i%300)), 1)
+		} else if i%8 == 4 {
+			try(mine, 1)
 		}
+		if own, is := shared.has(mine, 1, used[i%len(used)]); !is || own != i%len(used) {
+			t.Fatalf("after %d others statement %d has %d columns, %v", i/4, i%len(used), own, is)
+		}
+	}
+	if _, is := shared.has(mine, 1, unused); is {
+		t.Error("what nobody uses isn't forgotten")
+	}
+	if _, is := shared.has([]byte(`["others", ""]`), 1, used[0]); is {
+		t.Error("it was tried on connections of another signature")
+	}
+	if _, is := shared.has(mine, 2, used[0]); is || !shared.knows(1) || shared.knows(2) {
+		t.Error("it was tried by other definitions")
+	}
+	shared.add(mine, 2, &use{plan: used[0], own: 7})
+	shared.add(mine, 1, &use{plan: used[1], own: 8}) // of a connection that hasn't heard of the newer ones
+	if own, is := shared.has(mine, 2, used[0]); !is || own != 7 || len(shared.young)+len(shared.old) != 1 {
+		t.Errorf("by newer definitions it has %d columns, %v; %d and %d plans are known", own, is, len(shared.young), len(shared.old))
 	}
 }
 
