@@ -2,6 +2,7 @@
 import asyncio
 import logging
 import threading
+import time
 
 import psycopg
 from psycopg import rows
@@ -112,6 +113,7 @@ for name, options in (("one", {}), ("two", {"scrollable": True}), ("three", {"wi
     for binary in (False, True):
         with connection.cursor(name, **options) as cursor:
             cursor.execute("SELECT id, balance, tags FROM account WHERE id > %s ORDER BY id", (3,), binary=binary)
+            SAY([(each.name, each.type_code) for each in cursor.description])
             SAY(cursor.fetchone(), cursor.fetchmany(4))
             if name == "two":
                 cursor.scroll(-3)
@@ -121,6 +123,11 @@ for name, options in (("one", {}), ("two", {"scrollable": True}), ("three", {"wi
             SAY(len(cursor.fetchall()))
         connection.commit()
 for _ in range(3):
+    for number in range(6):  # by then the proxy has looked at it
+        with connection.transaction(), connection.cursor(f"named_{number}", row_factory=rows.dict_row) as cursor:
+            cursor.execute("SELECT id, balance FROM account WHERE owner <> '' ORDER BY id")
+            SAY([each.name for each in cursor.description], cursor.fetchmany(2))
+        time.sleep(0.05)
     SAY(list(connection.cursor().stream("SELECT id, balance FROM account WHERE id < %s ORDER BY id", (6,))))
 connection.commit()
 client = psycopg.ClientCursor(connection)

@@ -423,9 +423,12 @@ func (s *Session) describe(o *output, m []byte, start, end int) {
 			if st != nil && st.altered && st.kind() != plan.Declare {
 				e.hides, e.hidden = st.plan, st.use.hidden
 			}
-		} else if p := s.names.portals[portalName(name)]; p != nil {
-			e.at, e.on, e.hides, e.hidden = p, p.on, p.hides, p.hidden
-			p.described = true
+		} else {
+			p := s.names.portals[portalName(name)]
+			if e.mayBeCursor = s.mayBeCursor(name, p); p != nil {
+				e.at, e.on, e.hides, e.hidden = p, p.on, p.hides, p.hidden
+				p.described = true
+			}
 		}
 	}
 	s.queue.push(e)
@@ -450,7 +453,9 @@ func (s *Session) execute(o *output, m []byte, start, end int) {
 		s.trust.changed(unparsed)
 		s.trust.runsForeign()
 	}
-	if s.runsUnseen(e.on); p == nil && s.mayFetch(e.on, nil) || p != nil && s.lacksDescription(p) {
+	s.runsUnseen(e.on)
+	isCursor := s.mayBeCursor(name, p) && (p == nil || !s.mayBeFetch(p.on) && p.on.kind() != plan.Execute) // those two may fail
+	if isCursor || p == nil && s.mayFetch(e.on, nil) || p != nil && s.lacksDescription(p) {
 		o.buf = appendDescribePortal(o.own(), name)
 		s.queue.push(expectation{kind: portalColumns, message: 'D', at: p})
 	}
@@ -482,9 +487,12 @@ func (s *Session) close(o *output, m []byte, start, end int) {
 			e.undo, e.name, e.previous = undoStatement, gone.name, gone
 			s.names.setStatement(gone.name, nil)
 		}
-	} else if p := s.names.portals[portalName(name)]; p != nil {
-		e.undo, e.name, e.before = undoPortal, p.name, p
-		s.names.setPortal(p.name, nil)
+	} else {
+		e.closes = portalName(name)
+		if p := s.names.portals[e.closes]; p != nil {
+			e.undo, e.name, e.before = undoPortal, p.name, p
+			s.names.setPortal(p.name, nil)
+		}
 	}
 	s.queue.push(e)
 	if gone != nil && gone.twin != "" {

@@ -36,8 +36,15 @@ func (s *Session) mayBeFetch(st *statement) bool {
 	return st.kind() == plan.Fetch
 }
 
-// foretells takes the description of a FETCH's portal.
+// mayBeCursor reports whether a portal that the client names may be a cursor which DECLARE made, of a rewritten query: to the
+// server the two are one. p is what the client itself has bound by this name, or nil; SQL may have closed that since.
+func (s *Session) mayBeCursor(name []byte, p *portal) bool {
+	return s.names.hides && len(name) > 0 && (p == nil || p.hides == nil)
+}
+
+// foretells takes the description of a portal that may be a FETCH, or a cursor.
 func (s *Session) foretells(p *portal, columns []wire.Column) {
+	p.told = nil
 	x := expectation{on: p.on}
 	if s.fetched(&x); x.hides == nil || s.isAnother(&x, columns) {
 		if s.recognizes(&x, columns); x.hides == nil {

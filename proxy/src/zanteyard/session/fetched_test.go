@@ -125,3 +125,82 @@ func TestFetchedOfTheClients(t *testing.T) {
 		}
 	}
 }
+
+// TestCursorsAsPortals: to the server a cursor that DECLARE made is a portal. Described or executed as one, it has the client's
+// columns alone.
+func TestCursorsAsPortals(t *testing.T) {
+	needServer(t)
+	sql(t, fill)
+	const declare, fetch = "DECLARE c CURSOR FOR SELECT id, v FROM t ORDER BY id", "FETCH 1 FROM c"
+	describe, execute, sync := &pgproto3.Describe{ObjectType: 'P', Name: "c"}, &pgproto3.Execute{Portal: "c", MaxRows: 1}, &pgproto3.Sync{}
+	prepared := func(text string) []pgproto3.FrontendMessage {
+		return []pgproto3.FrontendMessage{&pgproto3.Parse{Query: text}, &pgproto3.Bind{}, &pgproto3.Execute{}}
+	}
+	for name, does := range map[string]struct {
+		want string // how many columns each description and row has
+		does func(p *proxied) [][]byte
+	}{
+		"described": {"[2]", func(p *proxied) [][]byte {
+			p.query(declare)
+			return p.do(messages('Z', describe, sync))
+		}},
+		"executed": {"[2 2]", func(p *proxied) [][]byte {
+			p.query(declare)
+			return p.do(messages('Z', execute, execute, sync))
+		}},
+		"both": {"[2 2]", func(p *proxied) [][]byte {
+			p.query(declare)
+			return p.do(messages('Z', describe, execute, sync))
+		}},
+		"after a FETCH": {"[2 2]", func(p *proxied) [][]byte {
+			p.query(declare)
+			p.query(fetch)
+			return p.do(messages('Z', describe, execute, sync))
+		}},
+		"before a FETCH": {"[2 2 2 2 2]", func(p *proxied) [][]byte {
+			p.query(declare)
+			all := p.do(messages('Z', describe, execute, sync))
+			return append(append(all, p.query(fetch)...), p.do(messages('Z', execute, sync))...)
+		}},
+		"in one pipeline": {"[2 2]", func(p *proxied) [][]byte {
+			return p.do(messages('Z', append(prepared(declare), describe, execute, sync)...))
+		}},
+		"executed in one pipeline": {"[2 2]", func(p *proxied) [][]byte {
+			return p.do(messages('Z', append(prepared(declare), execute, execute, sync)...))
+		}},
+		"in place of a portal that SQL closed": {"[2 2]", func(p *proxied) [][]byte {
+			p.do(messages('Z', &pgproto3.Parse{Query: "SHOW work_mem"}, &pgproto3.Bind{DestinationPortal: "c"}, sync))
+			p.query("CLOSE c")
+			p.query(declare)
+			return p.do(messages('Z', execute, describe, sync))
+		}},
+		"with hold, later": {"[2 2]", func(p *proxied) [][]byte {
+			p.query("DECLARE c CURSOR WITH HOLD FOR SELECT id, v FROM t ORDER BY id")
+			p.query("COMMIT")
+			return p.do(messages('Z', describe, execute, sync))
+		}},
+		"closed, and made again by a function": {"[5 5 5]", func(p *proxied) [][]byte {
+			p.query(declare)
+			p.do(messages('Z', &pgproto3.Close{ObjectType: 'P', Name: "c"}, sync))
+			p.query("DO $$ BEGIN EXECUTE 'DECLARE c CURSOR FOR SELECT id, v, v, v, v FROM t ORDER BY id'; END $$")
+			all := p.query(fetch)
+			return append(all, p.do(messages('Z', execute, sync))...)
+		}},
+		"that isn't there": {"[]", func(p *proxied) [][]byte {
+			p.query(declare)
+			return p.do(messages('Z', &pgproto3.Execute{Portal: "none"}, sync))
+		}},
+	} {
+		t.Run(name, func(t *testing.T) {
+			p := through(t, "postgres", nil)
+			p.warm("BEGIN", declare, fetch, "COMMIT")
+			p.query("BEGIN")
+			all := does.does(p)
+			if got := fmt.Sprint(columns(all)); got != does.want {
+				t.Errorf("%s columns, not %s: %.300s", got, does.want, show(all))
+			}
+			p.query("ROLLBACK")
+			p.query("CLOSE ALL")
+		})
+	}
+}

@@ -60,11 +60,14 @@ type expectation struct {
 	on       *statement
 	at       *portal
 	use      *use
-	replaced bool    // the cursor may be another one than that which is known
-	isOver   bool    // the server has shown that it is run over the tables of its plan
-	guessed  bool    // it was recognized by its columns
-	asking   *asking // what it asks for by a condition, nil if that isn't followed
-	of       *cursor // whose rows it returns, if it is known by name
+	replaced bool // the cursor may be another one than that which is known
+	isOver   bool // the server has shown that it is run over the tables of its plan
+	guessed  bool // it was recognized by its columns
+	// mayBeCursor: it describes a portal that may be a cursor which DECLARE made. closes is the cursor that a Close ends.
+	mayBeCursor bool
+	closes      string
+	asking      *asking // what it asks for by a condition, nil if that isn't followed
+	of          *cursor // whose rows it returns, if it is known by name
 	// What names stood for before this message, if it changes that: restored if the server doesn't get to it.
 	undo     undo
 	name     string

@@ -52,6 +52,9 @@ func (s *Session) answer(o *output, m []byte, start, end int) {
 		} else if e.kind == clients && m[0] == '1' && e.on != nil {
 			e.on.made = true
 		}
+		if e.closes != "" {
+			s.drops(e.closes)
+		}
 		s.queue.pop()
 	case 't':
 		if e.message == 'D' && e.on != nil && (e.on.name != "" || e.kind == clients) {
@@ -161,7 +164,8 @@ func (s *Session) description(o *output, e *expectation, m []byte, start, end in
 	alone := e.message == 'D'
 	s.fetched(e)
 	columns, ends, ok := []wire.Column(nil), []int(nil), false
-	if unseen := e.hidden == 0 && e.kind == clients && s.mayFetch(e.on, e.current()); unseen || e.hidden > 0 || e.kind == portalColumns {
+	unseen := e.hidden == 0 && e.kind == clients && (e.mayBeCursor || s.mayFetch(e.on, e.current()))
+	if unseen || e.hidden > 0 || e.kind == portalColumns {
 		columns, ends, ok = wire.Columns(m, s.columns[:0], s.ends[:0])
 		s.columns, s.ends = columns, ends
 		if unseen = unseen || ok && s.isAnother(e, columns); ok && unseen {
