@@ -5,7 +5,7 @@ import unittest
 from zanteyard.program._auditor import PROGRAM
 from zanteyard.trial.postgres_server import PostgresServer, program
 from zanteyard.watch.postgres._database import Database
-from zanteyard.watch.proxy._proxy_program import proxy_path
+from zanteyard.program._proxy_program import proxy_path
 
 try:
     import psycopg2

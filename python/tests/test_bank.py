@@ -10,7 +10,7 @@ import unittest
 
 from zanteyard.program._binaries import PROGRAM
 from zanteyard.trial.postgres_server import program
-from zanteyard.watch.proxy._proxy_program import proxy_path
+from zanteyard.program._proxy_program import proxy_path
 
 try:
     import psycopg2

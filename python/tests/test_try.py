@@ -10,7 +10,7 @@ import unittest
 from .test_package import TOP, python_for
 from zanteyard.program._auditor import PROGRAM
 from zanteyard.trial.postgres_server import program
-from zanteyard.watch.proxy._proxy_program import proxy_path
+from zanteyard.program._proxy_program import proxy_path
 
 NOT_COPIED = shutil.ignore_patterns(".git", "out", "crates", "__pycache__", ".mypy_cache")
 

@@ -22,7 +22,7 @@ from zanteyard.program._binaries import PROGRAM
 from zanteyard.trial.postgres_server import PostgresServer, program
 from zanteyard.watch import _run
 from zanteyard.watch.postgres._database import Database
-from zanteyard.watch.proxy._proxy_program import proxy_path
+from zanteyard.program._proxy_program import proxy_path
 from zanteyard.watch._run import Plan, Run
 
 from tests.proxy_pair import TOP

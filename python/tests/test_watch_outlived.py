@@ -15,7 +15,7 @@ import unittest
 from zanteyard.program._binaries import PROGRAM
 from zanteyard.watch.proxy._attached import _is_like
 from zanteyard.watch.proxy._control import ControlError, Who, control_path, who
-from zanteyard.watch.proxy._proxy_program import proxy_path
+from zanteyard.program._proxy_program import proxy_path
 
 from .over_postgres import OverPostgres, needs_all
 

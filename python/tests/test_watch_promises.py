@@ -20,7 +20,7 @@ from zanteyard.watch.violations._explaining import Explaining
 from zanteyard.watch.pages._figures import families
 from zanteyard.watch.proxy._intake import Intake
 from zanteyard.watch.pages._live_page import whole_page
-from zanteyard.watch.proxy._proxy_program import proxy_path
+from zanteyard.program._proxy_program import proxy_path
 from zanteyard.watch._run import Plan, Run
 from zanteyard.watch.pages._violation_page import violation_page
 from zanteyard.watch.violations._violations import keys_of

@@ -14,7 +14,7 @@ from zanteyard.watch.proxy import _supervising as supervising
 from zanteyard.watch.outcome._feed import Split, command
 from zanteyard.watch.proxy._intake import Intake
 from zanteyard.watch.proxy._proxy import Proxy
-from zanteyard.watch.proxy._proxy_program import build_of
+from zanteyard.program._proxy_program import build_of
 from zanteyard.watch.proxy._supervising import CantBeginError, Supervisor
 
 

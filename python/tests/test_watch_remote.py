@@ -21,7 +21,7 @@ from zanteyard.watch.pages import _live_page as live_page
 from zanteyard.watch.pages import _prometheus as prometheus
 from zanteyard.watch.postgres._database import Database
 from zanteyard.watch.outcome._feed import command, seen_of
-from zanteyard.watch.proxy._proxy_program import proxy_path
+from zanteyard.program._proxy_program import proxy_path
 from zanteyard.watch._run import Plan, Run
 
 from tests import watch_feed as feed

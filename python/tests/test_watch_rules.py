@@ -8,7 +8,7 @@ import time
 import unittest
 
 from zanteyard.program._binaries import PROGRAM
-from zanteyard.watch.proxy._proxy_program import proxy_path
+from zanteyard.program._proxy_program import proxy_path
 from zanteyard.watch._run import Plan, Run
 
 from .test_package import TOP

@@ -21,7 +21,7 @@ from zanteyard.trial.postgres_server import PostgresServer, program
 from zanteyard.watch.outcome._ending import _reasons
 from zanteyard.watch.outcome._totals import Total, Totals
 from zanteyard.watch.postgres._database import Database, DatabaseError
-from zanteyard.watch.proxy._proxy_program import build_of, find_proxy, proxy_path
+from zanteyard.program._proxy_program import build_of, find_proxy, proxy_path
 from zanteyard.watch._run import Plan, Run
 from zanteyard.watch.proxy._supervising import CantBeginError
 

@@ -14,7 +14,7 @@ from zanteyard import comments
 from zanteyard.program._binaries import PROGRAM
 from zanteyard.trial.postgres_server import PostgresServer, program
 from zanteyard.watch.postgres._database import Database
-from zanteyard.watch.proxy._proxy_program import proxy_path
+from zanteyard.program._proxy_program import proxy_path
 from zanteyard.watch._run import Plan, Run
 
 from .over_postgres import OverPostgres, needs_all

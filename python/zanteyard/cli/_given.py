@@ -11,10 +11,17 @@ from typing import IO, Any
 
 from ..core._visible import say
 from ..core.errors import CantBeAskedError
-from ..scripts._names import ScriptNames, read_names
+from ..scripts._names import ScriptNames, names_just_written, read_names
 from ..scripts._running import Verdict
 from ..scripts._times import ScriptTimes, checked_times, read_times
-from ..imports._command import FORMS, add_history_options, import_text, text_in
+from ..imports._command import (
+    FORMS,
+    add_history_options,
+    import_text,
+    plainly,
+    text_in,
+    unpacked,
+)
 from ..imports._guess import FIRST, history_form
 from ..imports._script_parts import Imported
 from ..journal._file import NAME as JOURNAL
@@ -29,7 +36,7 @@ FOR_HISTORIES = ("form", "initial", "first", "independent", "leave_out")
 class Given:
     """The script to check: the given one, or the one that was made of a history."""
 
-    script: str  # its path; empty if it was made of a history
+    script: str  # its path; empty if it was made of a history and isn't in a file
     about: str  # the file's name
     lines: Iterable[bytes]
     form: str = ""  # of the history
@@ -40,6 +47,8 @@ class Given:
         """The names of the script's transactions, if there are any."""
         if self.made is not None:
             return self.made.names
+        if self.form:
+            return names_just_written(self.script)
         names, why_not = read_names(self.script) if self.script != "-" else (None, "")
         if why_not:
             say(f"({why_not})")
@@ -103,19 +112,29 @@ def given(asked: argparse.Namespace, progress: Progress) -> Iterator[Given]:
 
 
 def _imported(
-    asked: argparse.Namespace, progress: Progress, form: str, whole: bytes
+    asked: argparse.Namespace, progress: Progress, form: str, packed: bytes
 ) -> Iterator[Given]:
     about = os.path.basename(asked.script) if asked.script != "-" else "a history"
-    with progress.during(IMPORTING):
-        is_timed = getattr(asked, "promise", None) == STRICT.name
-        settings = (asked.first, asked.initial, is_timed, asked.independent, asked.leave_out)
-        imported = import_text(form, text_in(whole, about), *settings)
-    if not getattr(asked, "json", False):
-        say(f"{about}, read as {form}: {imported.about[0]}")
-        for line in imported.about[1:]:
-            say(f"  {line}")
-    lines = (line.encode() for line in imported.lines)
-    yield Given("", about, lines, form, imported.about, imported)
+    is_timed = getattr(asked, "promise", None) == STRICT.name
+    with contextlib.ExitStack() as stack:
+        made: Imported | None = None
+        with progress.during(IMPORTING):
+            whole = unpacked(packed, about)
+            written = stack.enter_context(plainly(asked, form, whole, is_timed))
+            if written is None:
+                settings = (asked.first, asked.initial, is_timed, asked.independent)
+                made = import_text(form, text_in(whole, about), *settings, asked.leave_out)
+        done = made.about if made else written.about if written else ()
+        if not getattr(asked, "json", False):
+            say(f"{about}, read as {form}: {done[0]}")
+            for line in done[1:]:
+                say(f"  {line}")
+        if made is not None:
+            lines = (line.encode() for line in made.lines)
+            yield Given("", about, lines, form, done, made)
+        elif written is not None:
+            file = stack.enter_context(open(written.script, "rb"))
+            yield Given(written.script, about, file, form, done)
 
 
 def refuse_options(asked: argparse.Namespace, names: Sequence[str], why: str) -> None:

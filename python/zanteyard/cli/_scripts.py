@@ -153,9 +153,9 @@ def _run_of(asked: argparse.Namespace, source: Given) -> ScriptRun:
             f"the script's fences enforce real-time order, which {promise.title} doesn't ask for: "
             "import it again without --strict"
         )
-    times = None if source.made else source.times()  # a file's mistakes are reported at once
+    times = None if source.form else source.times()  # a file's mistakes are reported at once
     return ScriptRun(
-        find_program(), asked.nodes, names, promise, source.times if source.made else lambda: times
+        find_program(), asked.nodes, names, promise, source.times if source.form else lambda: times
     )
 
 

@@ -5,7 +5,7 @@ from collections.abc import Iterator
 
 from ..core._version import VERSION
 from ..program._binaries import checker_path, origin_of, program_path
-from ..watch.proxy._proxy_program import build_of
+from ..program._proxy_program import build_of
 
 
 def version_lines() -> Iterator[str]:

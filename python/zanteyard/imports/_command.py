@@ -4,16 +4,18 @@ import argparse
 import contextlib
 import gzip
 import os
+import shutil
 import zlib
 from collections.abc import Callable, Collection, Mapping
 from dataclasses import dataclass
 from typing import Any
 
+from ._at_once import Written, written_at_once
 from ._garbage import no_collections
 from ..core._private_files import private
 from ..core._visible import say
 from ..core.errors import ImportRefusedError
-from ..scripts._names import write_names
+from ..scripts._names import NAMES, write_names
 from ..scripts._times import TIMES, write_times
 from ..promises._asking import MOST
 from ._jepsen import read_jepsen
@@ -126,25 +128,49 @@ def run(asked: argparse.Namespace) -> int:
             asked.progress.doing = doing
 
     with no_collections():
-        text = text_of(asked.file)
-        imported = import_text(
-            asked.form,
-            text,
-            asked.first,
-            asked.initial,
-            asked.strict,
-            asked.independent,
-            asked.leave_out,
-            tell,
-        )
-        tell(f"writing {asked.script}")
-        write(imported, asked.script)
-    say(f"{asked.script}: {imported.about[0]}")
-    for line in imported.about[1:]:
+        with open(asked.file, "rb") as file:
+            whole = unpacked(file.read(), os.path.basename(asked.file))
+        with plainly(asked, asked.form, whole, asked.strict) as written:
+            if written is not None:
+                tell(f"writing {asked.script}")
+                for end in ("", NAMES, TIMES):
+                    _copy(written.script + end, asked.script + end)
+                about, has_times = written.about, True
+        if written is None:
+            imported = import_text(
+                asked.form,
+                text_in(whole, os.path.basename(asked.file)),
+                asked.first,
+                asked.initial,
+                asked.strict,
+                asked.independent,
+                asked.leave_out,
+                tell,
+            )
+            tell(f"writing {asked.script}")
+            write(imported, asked.script)
+            about, has_times = imported.about, imported.times is not None
+    say(f"{asked.script}: {about[0]}")
+    for line in about[1:]:
         say(f"  {line}")
-    if imported.times is not None:
+    if has_times:
         say(f"  begin and end times: {asked.script}{TIMES}")
     return 0
+
+
+def plainly(
+    asked: argparse.Namespace, form: str, whole: bytes, asks_time: bool
+) -> contextlib.AbstractContextManager[Written | None]:
+    """A context with the script of this history, if it can be had at once and no option asks for
+    less than all of it."""
+    if asked.first or asked.initial is not None or asked.independent or asked.leave_out:
+        return contextlib.nullcontext()
+    return written_at_once(form, whole, asks_time)
+
+
+def _copy(path: str, to: str) -> None:
+    with open(path, "rb") as file, open(to, "wb", opener=private) as copy:
+        shutil.copyfileobj(file, copy, 1 << 20)
 
 
 def write(imported: Imported, script: str) -> None:
@@ -184,19 +210,18 @@ def import_text(
     return script_of(recording, first, asks_time, EVERY)
 
 
-def text_of(path: str) -> str:
-    """The text of a file, which may be compressed by gzip."""
-    with open(path, "rb") as file:
-        return text_in(file.read(), os.path.basename(path))
+def unpacked(whole: bytes, name: str) -> bytes:
+    """What a file with this content and name has, without gzip. Raises ImportRefusedError."""
+    if whole[:2] != GZIP:
+        return whole
+    try:
+        return gzip.decompress(whole)
+    except (OSError, EOFError, zlib.error) as error:
+        raise ImportRefusedError(0, f"{name} can't be decompressed: {error}") from error
 
 
 def text_in(whole: bytes, name: str) -> str:
-    """The text of a file with this content and name."""
-    if whole[:2] == GZIP:
-        try:
-            whole = gzip.decompress(whole)
-        except (OSError, EOFError, zlib.error) as error:
-            raise ImportRefusedError(0, f"{name} can't be decompressed: {error}") from error
+    """The text of a file with this content and name. Raises ImportRefusedError."""
     try:
         return whole.decode("utf-8-sig")
     except UnicodeDecodeError as error:

@@ -22,12 +22,16 @@ from ._recording import (
     counted,
 )
 from ._script_parts import (
+    ASKS_TIME,
     BEFORE,
     LONGEST,
     Fence,
     Imported,
     Item,
     Plan,
+    about_size,
+    about_undone,
+    about_unused,
     all_before,
     in_text,
     keys_of,
@@ -451,41 +455,31 @@ class _ScriptMaker:
         """Sentences about what was done with the file."""
         kept = [self._attempts[at] for at in self._kept]
         count = sum(isinstance(item, int) for item in self._places)
-        yield f"{counted(count, 'transaction')} in {counted(len(self._plan.sessions), 'session')}"
+        yield about_size(count, len(self._plan.sessions))
         if self._is_part:
             yield (
                 f"only the first {len(kept)} of {len(self._attempts)} attempts: a violation is "
                 "final, any other verdict is pending"
             )
-        for outcome, about in ((ABORTED, "failed"), (UNKNOWN, "with unknown outcome")):
+        for outcome in (ABORTED, UNKNOWN):
             places = [at for at in self._kept if self._attempts[at].outcome == outcome]
             taken = {at for at in places if at in self._of or Stub(at, ABORTED) in self._places}
             if places:
-                left = len(places) - len(taken)
-                them = "it" if (left or len(places)) == 1 else "them"
-                words = f"left out, because nobody read from {them}"
-                if not left:
-                    words = f"in the script, because somebody read from {them}"
-                elif taken:
-                    words = f"{left} {words}"
-                yield f"{counted(len(places), 'attempt')} {about}: {words}"
+                yield about_undone(outcome, len(places), len(taken))
         for function, skipped in self._recording.left_out:
             yield (
                 f"{counted(skipped, 'operation')} of {function} left out: if they wrote anything, "
                 "the verdict may be wrong"
             )
         if self._recording.unused:
-            yield (
-                f"{counted(self._recording.unused, 'read')} not used, of attempts that failed or "
-                "have an unknown outcome"
-            )
+            yield about_unused(self._recording.unused)
         if self._plan.shared:
             yield (
                 f"{counted(self._plan.shared, 'client')} put into the session of a client that "
                 f"certainly came before{', by time' if self._plan.by_time else ''}"
             )
         if self._times is not None:
-            yield "the script asks about strict serializability"
+            yield ASKS_TIME
         if self._pauses:
             pauses = counted(sum(map(bool, self._plan.fences)), "pause")
             yield f"fences at {pauses}, where settled transactions are forgotten"

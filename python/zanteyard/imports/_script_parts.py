@@ -7,7 +7,7 @@ from dataclasses import dataclass, field
 from ..core._records import AuditId
 from ..scripts._names import NamedTransaction, ScriptNames
 from ..scripts._times import ScriptTimes
-from ._recording import ABORTED, APPEND, WRITE, Access, Attempt
+from ._recording import ABORTED, APPEND, UNKNOWN, WRITE, Access, Attempt, counted
 from ._sources import DRAFT, Stub
 
 LONGEST = 256  # transactions of a line, and reads or writes of a transaction
@@ -110,3 +110,32 @@ def named_stub(stub: Stub, attempts: tuple[Attempt, ...]) -> NamedTransaction:
     if stub.kind == DRAFT:
         return NamedTransaction(f"a part of {owner.name}", "unfinished", (), owner.where)
     return NamedTransaction("an impossible state", "impossible")
+
+
+ASKS_TIME = "the script asks about strict serializability"
+
+
+def about_size(transactions: int, sessions: int) -> str:
+    """How large the script is."""
+    return f"{counted(transactions, 'transaction')} in {counted(sessions, 'session')}"
+
+
+def about_undone(outcome: str, count: int, taken: int) -> str:
+    """What was done with this many attempts that are ABORTED or UNKNOWN, of which so many are in
+    the script."""
+    left = count - taken
+    them = "it" if (left or count) == 1 else "them"
+    words = f"left out, because nobody read from {them}"
+    if not left:
+        words = f"in the script, because somebody read from {them}"
+    elif taken:
+        words = f"{left} {words}"
+    about = {ABORTED: "failed", UNKNOWN: "with unknown outcome"}[outcome]
+    return f"{counted(count, 'attempt')} {about}: {words}"
+
+
+def about_unused(reads: int) -> str:
+    """What was done with the reads of such attempts."""
+    return (
+        f"{counted(reads, 'read')} not used, of attempts that failed or have an unknown outcome"
+    )

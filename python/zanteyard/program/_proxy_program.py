@@ -4,9 +4,9 @@ import os
 import subprocess
 from collections.abc import Mapping
 
-from ...core._visible import visible
-from ...core.errors import ProgramMissingError
-from ...program._binaries import CRATES, PACKED
+from ..core._visible import visible
+from ..core.errors import ProgramMissingError
+from ._binaries import CRATES, PACKED
 
 NAME = "zanteyard-proxy"
 ENVIRONMENT = "ZANTEYARD_PROXY"

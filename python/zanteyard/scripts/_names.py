@@ -2,6 +2,7 @@
 in a file next to the script, `SCRIPT.names`, which is used as long as the script is the one that it
 was made for."""
 
+import functools
 import hashlib
 import json
 import os
@@ -18,6 +19,7 @@ NAMES = ".names"
 PART, REST = "this part of the file", "the rest of the file"
 VERSION = 1
 PIECE = 2048  # transactions whose names a process writes at a time
+BEFORE_TRANSACTIONS = ',"transactions":['  # the end of the rest; no name has it unescaped
 
 
 # A read as its key and source, (5, "init") or (5, 0, 1), or a write as its key alone.
@@ -121,7 +123,7 @@ def write_names(names: ScriptNames, script: str) -> str:
     }
     text = _text_of(whole)
     with open(script + NAMES, "w", encoding="utf-8", opener=private) as file:
-        file.write(f'{text[:-1]},"transactions":[')
+        file.write(f"{text[:-1]}{BEFORE_TRANSACTIONS}")
         for number, session in enumerate(names.transactions):
             pieces = [session[at : at + PIECE] for at in range(0, len(session), PIECE)]
             texts = ",".join(shared_all(_text_in_list, pieces))
@@ -149,13 +151,49 @@ def read_names(script: str) -> tuple[ScriptNames | None, str]:
             whole = json.load(file)
         if whole["version"] != VERSION or whole["script"] != _sum_of(script):
             return None, f"{path} was made for another script, and isn't used"
-        return _names_of(whole), ""
+        return _names_of(whole, _sessions_of(whole["transactions"])), ""
     except (OSError, ValueError, LookupError, TypeError) as error:
         return None, f"{path} can't be read, and isn't used: {error}"
 
 
-def _names_of(whole: Any) -> ScriptNames:
-    transactions: list[list[NamedTransaction]] = [
+class LateNames(Sequence[Sequence[NamedTransaction]]):
+    """The named transactions of each session, which are read when one of them is wanted."""
+
+    def __init__(self, text: str) -> None:
+        """`text` is a JSON list of them."""
+        self._text = text
+
+    @functools.cached_property
+    def _sessions(self) -> list[list[NamedTransaction]]:
+        return _sessions_of(json.loads(self._text))
+
+    @overload
+    def __getitem__(self, at: int) -> list[NamedTransaction]: ...
+
+    @overload
+    def __getitem__(self, at: slice) -> list[list[NamedTransaction]]: ...
+
+    def __getitem__(
+        self, at: int | slice
+    ) -> list[NamedTransaction] | list[list[NamedTransaction]]:
+        return self._sessions[at]
+
+    def __len__(self) -> int:
+        return len(self._sessions)
+
+
+def names_just_written(script: str) -> ScriptNames:
+    """The names next to a script that this process has had written. Raises OSError."""
+    with open(script + NAMES, encoding="utf-8") as file:
+        front, before, transactions = file.read().partition(BEFORE_TRANSACTIONS)
+    if not before:
+        raise OSError(f"{script}{NAMES} can't be read")
+    sessions = LateNames(f"[{transactions.rstrip().removesuffix('}')}")
+    return _names_of(json.loads(f"{front}}}"), sessions)
+
+
+def _sessions_of(sessions: Any) -> list[list[NamedTransaction]]:
+    return [
         [
             NamedTransaction(
                 str(name),
@@ -165,8 +203,11 @@ def _names_of(whole: Any) -> ScriptNames:
             )
             for name, outcome, texts, where in session
         ]
-        for session in whole["transactions"]
+        for session in sessions
     ]
+
+
+def _names_of(whole: Any, transactions: Sequence[Sequence[NamedTransaction]]) -> ScriptNames:
     return ScriptNames(
         str(whole["form"]),
         {int(number): str(key) for number, key in whole["keys"]},

@@ -28,7 +28,7 @@ from ._options import FORM, HOLD, URL, add_hold, add_logging, add_server, addres
 from ._options import percent, share, web_address, whole_of
 from .postgres._patterns import add_tables_option
 from ._prepare import host_name
-from .proxy._proxy_program import find_proxy
+from ..program._proxy_program import find_proxy
 from ._run import Plan, Run, stopped_by_signals
 from .proxy._sharing import add_sharing, mistake_of, words_of
 from .proxy._supervising import CantBeginError, Control

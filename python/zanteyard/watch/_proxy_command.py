@@ -11,7 +11,7 @@ from .proxy._clients import add_clients, mistake_in
 from ._command import MISTAKE, add_ending, call_of, control_of
 from ._options import URL, add_hold, add_server
 from .postgres._patterns import add_tables_option
-from .proxy._proxy_program import find_proxy
+from ..program._proxy_program import find_proxy
 from .proxy._sharing import add_sharing, mistake_of
 
 EXAMPLE = """\

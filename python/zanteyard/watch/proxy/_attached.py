@@ -17,7 +17,7 @@ from ...core.errors import ProgramMissingError
 from ._control import FINGERPRINT, BusyProxyError, ControlError, Who, attach, fingerprint, who
 from ..outcome._feed import Item, Split
 from ._proxy import ENDING, LISTENING, PIECE, STAMP
-from ._proxy_program import version_of
+from ...program._proxy_program import version_of
 
 LOOKS = 0.02  # seconds between two tries to reach a proxy that was started
 Take = Callable[[Sequence[Item]], None]

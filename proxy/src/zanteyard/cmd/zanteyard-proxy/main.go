@@ -26,6 +26,7 @@ import (
 	"zanteyard/catalog"
 	"zanteyard/definitions"
 	"zanteyard/guard"
+	"zanteyard/histories"
 	"zanteyard/join"
 	"zanteyard/keys"
 	"zanteyard/loop"
@@ -176,6 +177,9 @@ const (
 )
 
 func main() {
+	if len(os.Args) > 1 && os.Args[1] == "import" {
+		os.Exit(histories.Run(os.Args[2:], os.Stdin, os.Stdout, os.Stderr))
+	}
 	f, err := parse(os.Args[1:], os.Stderr)
 	switch {
 	case errors.Is(err, flag.ErrHelp):
