@@ -54,6 +54,36 @@ func TestAskedWhileDefinitionsChanged(t *testing.T) {
 	}
 }
 
+// TestSettingsReadAgain: for a while after the server's settings were read again nobody's level is certain, and no name is.
+func TestSettingsReadAgain(t *testing.T) {
+	for _, x := range []struct {
+		what  string
+		began time.Duration // after the settings were read
+		level record.Level
+		left  bool
+	}{
+		{"before", -time.Second, record.UnknownLevel, true},
+		{"soon", settles, record.UnknownLevel, true},
+		{"later", settles + time.Second, record.RepeatableRead, false},
+	} {
+		b := newBench(t, Options{Sessions: 2})
+		b.connect(1)
+		read := b.now
+		(&gate{}).verify(Place{Reread: true}, b.core)
+		b.core.forgetMeanings() // that lets nobody begin earlier
+		b.later(time.Minute)
+		it := record.Transaction{Level: record.RepeatableRead, Snapshot: "1001:1001:", Began: read.Add(x.began), Ended: b.now,
+			Asks: []record.Ask{{Condition: &fakeCondition{kind: "y"}, From: read.Add(x.began)}}}
+		e := entry{its: it}
+		b.core.resolve(&e)
+		b.tell(1, 0, it)
+		b.settle()
+		if n := b.core.counts; e.its.Level != x.level || n.leftAsks[askChanged] != uint64(btoi(x.left)) {
+			t.Errorf("%s: level %d, left out %v", x.what, e.its.Level, n.leftAsks)
+		}
+	}
+}
+
 // TestAskedOfOtherColumns: the same, if a table in a subquery has other columns than the statement took it for.
 func TestAskedOfOtherColumns(t *testing.T) {
 	b := newBench(t, Options{Sessions: 2})

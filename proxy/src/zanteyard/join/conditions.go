@@ -67,6 +67,13 @@ type conditions struct {
 	remade     time.Time // when operators and the like were last seen to have been made or dropped; zero if never
 }
 
+// remakes records that what was asked before this time may have meant something else.
+func (c *conditions) remakes(at time.Time) {
+	if at.After(c.remade) {
+		c.remade = at
+	}
+}
+
 // tableAsks are the conditions by which rows of one table were asked for.
 type tableAsks struct {
 	all    map[*question]bool

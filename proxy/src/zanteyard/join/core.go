@@ -78,6 +78,7 @@ type core struct {
 	beside       time.Time // what was reported by then waits for nobody any more
 	looked       time.Time // when the last of besides was taken; zero if nobody takes them
 	writes       time.Time // when a writer was reported last
+	reread       time.Time // until then, sessions may take the server's settings for what they were
 }
 
 type batchAt struct {
@@ -448,11 +449,15 @@ func (c *core) forgetTables(its map[record.Relation]bool) {
 // forgetMeanings drops all conditions, since an operator or the like may mean something else from now on, or may have
 // meant it.
 func (c *core) forgetMeanings() {
-	c.questions.remade = c.now
+	c.questions.remakes(c.now)
 	for relation := range c.questions.of {
 		c.questions.forgetAll(relation)
 	}
 }
+
+// settles is how long it takes until all sessions have learned of settings that were read again: until then what they say of a
+// transaction's level, or took a name for, may be of before.
+const settles = 30 * time.Second
 
 // forget drops versions that were overwritten long ago, which nobody is expected to read any more.
 func (c *core) forget() {

@@ -68,7 +68,11 @@ func (g *gate) verify(place Place, to *core) {
 		to.forgetMeanings()
 	}
 	if place.MayMean {
-		to.questions.remade = to.now
+		to.questions.remakes(to.now)
+	}
+	if place.Reread {
+		to.reread = to.now.Add(settles)
+		to.questions.remakes(to.reread)
 	}
 	if shows, ok := snapshotOf(place.Shows); ok && !place.Unsure && place.At >= g.verified {
 		g.verified, g.used, g.shows = place.At, place.Used, shows

@@ -40,6 +40,9 @@ type Place struct {
 	// MayMean says that some operator or schema may have been made, changed or dropped since the last place, though all may
 	// be as it was: names of operators may have meant something else for a while.
 	MayMean bool
+	// Reread says that the server's settings were read again since the last place: transactions may begin at another level, and
+	// names may be looked up by another path.
+	Reread bool
 	// Used is how many tables were looked at (record.Commit). Unsure: names may have changed once more since.
 	Used   uint64
 	Unsure bool

@@ -114,6 +114,9 @@ func (c *core) resolve(e *entry) (resolution, bool) {
 	if e.batch > c.passed {
 		return to, false
 	}
+	if began, _ := span(&e.its); !began.After(c.reread) {
+		e.its.Level = record.UnknownLevel
+	}
 	if e.writer != nil && e.writer.place == 0 { // it wrote nothing that the slot reports
 		delete(c.writers, e.writer.number)
 		e.writer = nil

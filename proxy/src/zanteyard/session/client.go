@@ -154,7 +154,7 @@ func (s *Session) query(o *output, m []byte, start, end int) {
 		if st.plan.Kind != plan.Declare {
 			e.hides, e.hidden = st.plan, st.use.hidden
 		} else {
-			s.names.hides = true
+			s.names.hides, e.declares = true, true
 		}
 		if st.plan.Asked && s.wantsAbsent() {
 			st.asked.key, st.asked.known = st.plan.AskedKey(st.text, st.tokens, nil, nil, nil)
@@ -444,6 +444,7 @@ func (s *Session) execute(o *output, m []byte, start, end int) {
 		e.at, e.on, e.hides, e.hidden, e.binary, e.changed = p, p.on, p.hides, p.hidden, p.binary, p.changed
 		e.asking = p.asking
 		if p.on != nil {
+			e.declares = p.changed && p.on.kind() == plan.Declare
 			e.use = p.on.use
 			e.replaced = s.runsPortal(p)
 		}
@@ -454,7 +455,8 @@ func (s *Session) execute(o *output, m []byte, start, end int) {
 		s.trust.runsForeign()
 	}
 	s.runsUnseen(e.on)
-	isCursor := s.mayBeCursor(name, p) && (p == nil || !s.mayBeFetch(p.on) && p.on.kind() != plan.Execute) // those two may fail
+	isCursor := s.mayBeCursor(name, p) && s.mayRunCursor(name) &&
+		(p == nil || !s.mayBeFetch(p.on) && p.on.kind() != plan.Execute) // to describe these two may fail
 	if isCursor || p == nil && s.mayFetch(e.on, nil) || p != nil && s.lacksDescription(p) {
 		o.buf = appendDescribePortal(o.own(), name)
 		s.queue.push(expectation{kind: portalColumns, message: 'D', at: p})

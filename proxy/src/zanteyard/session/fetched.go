@@ -42,6 +42,12 @@ func (s *Session) mayBeCursor(name []byte, p *portal) bool {
 	return s.names.hides && len(name) > 0 && (p == nil || p.hides == nil)
 }
 
+// mayRunCursor reports whether an Execute of a portal may return rows of a cursor: one of this name is known, or may be on its
+// way. To describe the portal first is no use otherwise, and the server's error would be that of a Describe.
+func (s *Session) mayRunCursor(name []byte) bool {
+	return s.queue.declares > 0 || s.status != 'E' && s.names.cursors[portalName(name)] != nil
+}
+
 // foretells takes the description of a portal that may be a FETCH, or a cursor.
 func (s *Session) foretells(p *portal, columns []wire.Column) {
 	p.told = nil

@@ -63,11 +63,12 @@ type expectation struct {
 	replaced bool // the cursor may be another one than that which is known
 	isOver   bool // the server has shown that it is run over the tables of its plan
 	guessed  bool // it was recognized by its columns
-	// mayBeCursor: it describes a portal that may be a cursor which DECLARE made. closes is the cursor that a Close ends.
-	mayBeCursor bool
-	closes      string
-	asking      *asking // what it asks for by a condition, nil if that isn't followed
-	of          *cursor // whose rows it returns, if it is known by name
+	// mayBeCursor: it describes a portal that may be a cursor which DECLARE made. declares: it makes one, of a rewritten query.
+	// closes is the cursor that a Close ends.
+	mayBeCursor, declares bool
+	closes                string
+	asking                *asking // what it asks for by a condition, nil if that isn't followed
+	of                    *cursor // whose rows it returns, if it is known by name
 	// What names stood for before this message, if it changes that: restored if the server doesn't get to it.
 	undo     undo
 	name     string
@@ -94,6 +95,7 @@ type queue struct {
 	pieces int // of the statements in it
 	// changes counts what may be undone of names, and binds the Binds of the client's portals that aren't answered.
 	changes, binds map[change]int
+	declares       int       // how many of its statements declare a cursor with a rewritten query
 	sent           time.Time // when the client's messages that are added now were sent
 	era            uint64
 	// levels and doubts are what trust counts now.
@@ -171,6 +173,9 @@ type change struct {
 }
 
 func (q *queue) count(e *expectation, by int) {
+	if e.declares {
+		q.declares += by
+	}
 	if e.undo != undoStatement && e.undo != undoPortal {
 		return
 	}

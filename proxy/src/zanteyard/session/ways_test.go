@@ -103,6 +103,13 @@ func ways() []way {
 			}
 			return all
 		}},
+		{"psycopg 3: a named cursor, described as a portal, and then run as one", func(c *client, text string) [][]byte {
+			text = constant(text)
+			all := c.query(`DECLARE "named" CURSOR FOR ` + strings.TrimRight(strings.Split(text, ";")[0], " "))
+			all = append(all, c.inOneSync(describe('P', "named"))...)
+			all = append(all, c.query(`FETCH FORWARD 2 FROM "named"`)...)
+			return append(all, c.inOneSync(run("named", 1), run("named", 0), describe('P', "named"), shut('P', "named"))...)
+		}},
 		{"psql -c: several in a text", func(c *client, text string) [][]byte {
 			return c.query("SELECT 1; " + constant(text) + "\n; SELECT 2")
 		}},

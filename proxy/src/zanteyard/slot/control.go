@@ -4,6 +4,7 @@ import (
 	"context"
 	"errors"
 	"fmt"
+	"math"
 	"strconv"
 	"strings"
 	"sync"
@@ -34,7 +35,9 @@ type Control struct {
 	rewritten []join.Rewritten
 	remade    bool
 	mayMean   bool
-	analysed  string // what analysedSQL returned last
+	reread    bool
+	analysed  string  // what analysedSQL returned last
+	settings  float64 // when the settings were read last, in seconds; 0 if that isn't known
 }
 
 // NewControl connects, and reads the catalog.
@@ -133,9 +136,15 @@ func (c *Control) where(ctx context.Context, tables string) (place [][]string, a
 		c.conn.Close(ctx)
 		return nil, "", err
 	}
-	if len(its[1]) != 1 || len(its[1][0]) != 1 || its[1][0][0] == "" {
+	if len(its[1]) != 1 || len(its[1][0]) != 2 || its[1][0][0] == "" {
 		return nil, "", errForm
 	}
+	read, err := strconv.ParseFloat(its[1][0][1], 64)
+	if err != nil {
+		return nil, "", errForm
+	}
+	c.reread = c.reread || c.settings > 0 && read > c.settings
+	c.settings = math.Max(c.settings, read)
 	return its[0], its[1][0][0], nil
 }
 
@@ -145,7 +154,10 @@ const placeName, analysedName = "zanteyard.place", "zanteyard.analysed"
 // prepared statement is analysed again at its next run after any transaction has committed that made, changed or dropped
 // an operator or a schema. So an operator that was made and dropped between two questions is noticed, though nothing is
 // left of it in the catalog. It names no table, whose own changes would count as well.
-var analysedSQL = own.SQL("SELECT 'now'::pg_catalog.timestamptz")
+//
+// Beside it, when the settings were read last, in seconds. A backend that is new says when the server read them, so the time
+// is later than an older backend's only if they were read again.
+var analysedSQL = own.SQL("SELECT 'now'::pg_catalog.timestamptz, pg_catalog.date_part('epoch', pg_catalog.pg_conf_load_time())")
 
 // one returns the only value of a statement.
 func (c *Control) one(ctx context.Context, text own.Text) (string, error) {
@@ -164,7 +176,8 @@ func (c *Control) one(ctx context.Context, text own.Text) (string, error) {
 func (c *Control) Place(ctx context.Context) (join.Place, error) {
 	place, err := c.place(ctx)
 	if err == nil {
-		c.changed, c.rewritten, c.remade, c.mayMean = nil, nil, false, false
+		place.Reread = c.reread
+		c.changed, c.rewritten, c.remade, c.mayMean, c.reread = nil, nil, false, false, false
 	}
 	return place, err
 }
