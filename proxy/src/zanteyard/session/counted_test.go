@@ -278,3 +278,20 @@ func TestClosedInTheMiddle(t *testing.T) {
 		})
 	}
 }
+
+// TestCommandTags: what each tag of the server counts.
+func TestCommandTags(t *testing.T) {
+	for tag, want := range map[string]struct {
+		verb string
+		n    uint64
+	}{
+		"SELECT 5": {"SELECT", 5}, "INSERT 0 7": {"INSERT", 7}, "UPDATE 0": {"UPDATE", 0}, "DELETE 12": {"DELETE", 12}, "FETCH 3": {"FETCH", 3},
+		"MERGE 2": {"MERGE", 2}, "COPY 18446744073709551616": {"COPY 18446744073709551616", 0}, "COPY 9": {"COPY", 9}, "MOVE 1": {"MOVE", 1},
+		"BEGIN": {"BEGIN", 0}, "CREATE TABLE": {"CREATE TABLE", 0}, "CREATE TABLE AS": {"CREATE TABLE AS", 0}, "": {"", 0}, "5": {"5", 0},
+		" 5": {" 5", 0}, "X ": {"X ", 0}, "ROLLBACK PREPARED": {"ROLLBACK PREPARED", 0}, "SELECT -1": {"SELECT -1", 0},
+	} {
+		if verb, n := counted([]byte(tag)); verb != want.verb || n != want.n {
+			t.Errorf("%q: %q, %d", tag, verb, n)
+		}
+	}
+}

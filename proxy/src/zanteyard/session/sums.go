@@ -3,7 +3,6 @@ package session
 import (
 	"bytes"
 	"regexp"
-	"strconv"
 
 	"zanteyard/plan"
 	"zanteyard/record"
@@ -291,14 +290,40 @@ func (s *Session) suspended(e *expectation) {
 
 // counted parses a command's tag: what was done, and with how many rows.
 func counted(tag []byte) (verb string, n uint64) {
-	words := bytes.Fields(tag)
-	if len(words) == 0 {
-		return "", 0
+	at := bytes.LastIndexByte(tag, ' ')
+	if at < 1 || at+1 == len(tag) {
+		return verbOf(tag), 0
 	}
-	if n, err := strconv.ParseUint(string(words[len(words)-1]), 10, 64); err == nil && len(words) > 1 {
-		return string(words[0]), n
+	for _, c := range tag[at+1:] {
+		if c < '0' || c > '9' || n > (1<<63)/10 {
+			return verbOf(tag), 0
+		}
+		n = n*10 + uint64(c-'0')
 	}
-	return string(tag), 0
+	return verbOf(tag[:bytes.IndexByte(tag, ' ')]), n
+}
+
+// verbOf is the text of a tag, without making one of those that are usual.
+func verbOf(tag []byte) string {
+	switch string(tag) {
+	case "SELECT":
+		return "SELECT"
+	case "INSERT":
+		return "INSERT"
+	case "UPDATE":
+		return "UPDATE"
+	case "DELETE":
+		return "DELETE"
+	case "FETCH":
+		return "FETCH"
+	case "BEGIN":
+		return "BEGIN"
+	case "COMMIT":
+		return "COMMIT"
+	case "ROLLBACK":
+		return "ROLLBACK"
+	}
+	return string(tag)
 }
 
 func writes(verb string) bool {
