@@ -169,10 +169,13 @@ func addName(to map[string]map[string]bool, name, schema string) {
 	to[name][schema] = true
 }
 
+// Unsure is the first schema of a search path that may become another one (PathSQL).
+const Unsure = ""
+
 // visible reports whether an unqualified name may mean something in a schema: one of the search path, or any one if
-// that isn't known.
+// that isn't known, or may become another one.
 func (c *Catalog) visible(schema string) bool {
-	if c.Path == nil || schema == "pg_catalog" {
+	if c.Path == nil || schema == "pg_catalog" || len(c.Path) > 0 && c.Path[0] == Unsure {
 		return true
 	}
 	for _, one := range c.Path {
@@ -195,7 +198,7 @@ func (c *Catalog) Own() bool {
 }
 
 // First reports whether nobody can make a relation that an unqualified name finds before those of a schema, without making a
-// schema or a temporary relation.
+// schema or a temporary relation. Of a path that may become another one that is true of none.
 func (c *Catalog) First(schema string) bool {
 	for _, one := range c.Path {
 		if one != "pg_catalog" {

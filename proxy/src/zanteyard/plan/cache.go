@@ -72,8 +72,8 @@ func (c *Cache) Use(with *catalog.Catalog) {
 	c.state.Store(next)
 }
 
-// in returns the cache for a search path. Beyond a number of paths, names are resolved by the catalog's own path: the
-// trial on a connection shows whether that is right.
+// in returns the cache for a search path. Beyond a number of paths, names are resolved by the catalog's own path, as one that
+// may be another: the trial on a connection shows whether that is right for what returns rows.
 func (s *cached) in(path string) *cached {
 	s.lock.RLock()
 	found, ok := s.paths[path]
@@ -86,9 +86,12 @@ func (s *cached) in(path string) *cached {
 	if found, ok := s.paths[path]; ok {
 		return found
 	}
+	if len(s.paths) >= mostPaths {
+		return s.beyond(strings.HasPrefix(path, Converting))
+	}
 	view, err := s.view(path)
-	if err != nil || len(s.paths) >= mostPaths {
-		return s
+	if err != nil {
+		return s.beyond(strings.HasPrefix(path, Converting))
 	}
 	if !view.Converts && strings.Join(view.Path, "\x00") == strings.Join(s.catalog.Path, "\x00") {
 		s.paths[path] = s
@@ -97,6 +100,21 @@ func (s *cached) in(path string) *cached {
 	made := &cached{catalog: view, generation: s.generation, unknown: s.unknown, entries: pathEntries, bytes: pathBytes}
 	s.paths[path] = made
 	return made
+}
+
+// beyond returns the cache for paths that have none of their own, or that can't be read. The lock is held.
+func (s *cached) beyond(converts bool) *cached {
+	key := "?"
+	if converts {
+		key = Converting + key
+	}
+	if s.paths[key] == nil {
+		view := *s.catalog
+		view.Path = append([]string{catalog.Unsure}, s.catalog.Path...)
+		view.Converts = view.Converts || converts
+		s.paths[key] = &cached{catalog: &view, generation: s.generation, unknown: s.unknown, entries: pathEntries, bytes: pathBytes}
+	}
+	return s.paths[key]
 }
 
 // Converting precedes the search path of a connection whose texts the server converts.

@@ -320,8 +320,14 @@ func TestSearchPaths(t *testing.T) {
 	for i := 0; i < 2*mostPaths; i++ {
 		cache.PlanIn(fmt.Sprintf(`["x%d"]`, i), "SELECT 1")
 	}
-	if n := len(cache.state.Load().paths); n > mostPaths {
+	if n := len(cache.state.Load().paths); n > mostPaths+1 {
 		t.Errorf("%d paths are kept", n)
+	}
+	for _, path := range []string{`["y"]`, Converting + `["y"]`} {
+		beyond := cache.state.Load().in(path).catalog
+		if beyond.First("public") || beyond.Converts != strings.HasPrefix(path, Converting) {
+			t.Errorf("names of the path %s are certain, or its texts are another's: %v", path, beyond.Path)
+		}
 	}
 	if p, _ := cache.PlanIn("no JSON", "SELECT 1"); p.Kind != Select {
 		t.Errorf("%+v", p)

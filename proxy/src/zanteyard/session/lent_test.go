@@ -1,0 +1,69 @@
+package session
+
+import (
+	"context"
+	"strings"
+	"testing"
+	"time"
+
+	"zanteyard/catalog"
+	"zanteyard/definitions"
+)
+
+// TestNamesByMembership: the server looks at a membership only when some schema changes, so a name that is found in a schema by
+// way of one may mean another table later, without a change of anything that is looked at. Names that no result shows aren't
+// certain then.
+func TestNamesByMembership(t *testing.T) {
+	needServer(t)
+	alone(t)
+	undo := func() {
+		sql(t, "DROP SCHEMA IF EXISTS lent CASCADE; DROP SCHEMA IF EXISTS hidden CASCADE")
+		for _, role := range []string{"borrower", "lenders"} {
+			sql(t, "DO $$ BEGIN IF EXISTS (SELECT FROM pg_roles WHERE rolname = '"+role+"') THEN DROP OWNED BY "+role+"; DROP ROLE "+role+"; END IF; END $$")
+		}
+	}
+	undo()
+	defer undo()
+	sql(t, "CREATE ROLE borrower LOGIN; CREATE ROLE lenders; GRANT lenders TO borrower; CREATE SCHEMA lent; CREATE SCHEMA hidden")
+	sql(t, "CREATE TABLE lent.w (id int PRIMARY KEY, v int); CREATE TABLE lent.x (id int PRIMARY KEY, v int); INSERT INTO lent.x VALUES (1, 1)")
+	sql(t, "GRANT ALL ON ALL TABLES IN SCHEMA lent TO borrower")
+	const within, update = "SELECT v FROM lent.x WHERE id < 5 AND NOT EXISTS (SELECT FROM w WHERE w.v = 5)", "UPDATE w SET v = 6 WHERE v = 77"
+	for _, one := range []struct {
+		what, does, path string
+		certain          bool
+	}{
+		{"by a membership", "GRANT USAGE ON SCHEMA lent TO lenders", "lent, public", false},
+		{"and by a right of its own", "GRANT USAGE ON SCHEMA lent TO borrower", "lent, public", true},
+		{"behind one that can't be used", "SELECT", "hidden, lent, public", false},
+		{"behind one that a group may use", "GRANT USAGE ON SCHEMA hidden TO lenders", `"hidden",lent`, false},
+		{"behind one that isn't there", "SELECT", `nowhere, "$user", lent`, true},
+		{"of a path that isn't read", "SELECT", `"Nowhere", lent`, false},
+		{"by everybody's right", "REVOKE USAGE ON SCHEMA lent FROM borrower; GRANT USAGE ON SCHEMA lent TO PUBLIC", "lent", true},
+	} {
+		sql(t, one.does)
+		sql(t, "ALTER ROLE borrower SET search_path = "+one.path)
+		its, err := definitions.Open(context.Background(), config(), time.Hour, func(string) {}, catalog.WithColumns, catalog.OnlyCertainLists)
+		if err != nil {
+			t.Fatal(err)
+		}
+		p := through(t, "borrower", func(o *Options) { o.Plans, o.Generation, o.Shared = its, its.Generation, NewShared() })
+		p.warm(within, update)
+		for i := 0; i < 3; i++ {
+			p.settle()
+			p.sink.take()
+			p.query(within)
+			p.query(update)
+		}
+		var got []string
+		for _, told := range p.sink.take() {
+			for _, ask := range told.Asks {
+				got = append(got, shownAsk(ask))
+			}
+		}
+		text := strings.Join(got, "; ")
+		if is := !strings.Contains(text, "not: "); is != one.certain || len(got) == 0 {
+			t.Errorf("%s, %s: certain %v: %s", one.what, one.path, is, text)
+		}
+		p.conn.Close()
+	}
+}
