@@ -79,6 +79,7 @@ func (c phantomCondition) inJoin() phantomCondition {
 
 // phantomAsk is a SELECT with what it returned: the tags of versions, by key.
 type phantomAsk struct {
+	text          string // the statement
 	by            phantomCondition
 	found         map[int]string
 	also          map[int][]string // further rows with the same key: one that the transaction inserted, and one in its snapshot
@@ -233,7 +234,7 @@ func (c *phantomClient) select_(t *phantomTxn, own map[int]bool) error {
 	if rows, err = c.ask(text); err != nil {
 		return err
 	}
-	if shape != nil {
+	if it.text = text; shape != nil {
 		it.by, it.alone = shape.asked(rows)
 	}
 	if len(rows) == 0 || it.locks {
@@ -279,7 +280,7 @@ func (c *phantomClient) changes(t *phantomTxn, own map[int]bool, text string, by
 	if err != nil {
 		return nil, err
 	}
-	it := phantomAsk{by: *by, found: map[int]string{}, own: ownKeys(own), locks: true, before: snapOf(before[0][0]), after: snapOf(after[0][0])}
+	it := phantomAsk{text: text, by: *by, found: map[int]string{}, own: ownKeys(own), locks: true, before: snapOf(before[0][0]), after: snapOf(after[0][0])}
 	for _, row := range rows {
 		k, _ := strconv.Atoi(row[0])
 		it.own[k] = true

@@ -39,14 +39,15 @@ func ownKeys(own map[int]bool) map[int]bool {
 func (c *phantomClient) none(t *phantomTxn, own map[int]bool) error {
 	by := someCondition(c.r)
 	texts := by.nones(c.table)
-	rows, err := c.ask(texts[c.r.Intn(len(texts))])
+	text := texts[c.r.Intn(len(texts))]
+	rows, err := c.ask(text)
 	if err != nil {
 		return err
 	}
 	for _, row := range rows {
 		parent, _ := strconv.Atoi(row[0])
 		its := snapOf(row[1])
-		t.asks = append(t.asks, phantomAsk{by: by.beside(parent), found: map[int]string{}, own: ownKeys(own), before: its, after: its})
+		t.asks = append(t.asks, phantomAsk{text: text, by: by.beside(parent), found: map[int]string{}, own: ownKeys(own), before: its, after: its})
 	}
 	return nil
 }
@@ -63,15 +64,12 @@ func (c *phantomClient) unless(by phantomCondition, key int, a string, b int, ta
 
 // writesUnless runs one of them.
 func (c *phantomClient) writesUnless(t *phantomTxn, own map[int]bool, which int, by phantomCondition, key int, a string, b int) ([][]string, error) {
-	rows, err := c.ask(c.unless(by, key, a, b, t.tag)[which] + " RETURNING id, tag, pg_current_snapshot()")
+	text := c.unless(by, key, a, b, t.tag)[which]
+	rows, err := c.ask(text + " RETURNING id, tag, pg_current_snapshot()")
 	if err != nil || len(rows) == 0 {
 		return rows, err
 	}
-	its, mine := snapOf(rows[0][2]), ownKeys(own)
-	for _, row := range rows {
-		k, _ := strconv.Atoi(row[0])
-		mine[k] = true
-	}
-	t.asks = append(t.asks, phantomAsk{by: by, found: map[int]string{}, own: mine, before: its, after: its})
+	its := snapOf(rows[0][2]) // which has nothing of what the statement itself writes: a row that it inserts may have gone before
+	t.asks = append(t.asks, phantomAsk{text: text, by: by, found: map[int]string{}, own: ownKeys(own), before: its, after: its})
 	return rows, nil
 }

@@ -290,7 +290,8 @@ func (b *phantomRun) judge(one *phantomHistory, first int) {
 		b.describe(first, mine)
 	}
 	if *phantomsMissed && !whole && cycle == "" {
-		b.t.Logf("history %d is violated, and that isn't found\n%s", one.seed, shownHistory(one.txns, one.chains))
+		b.t.Logf("history %d is violated, and that isn't found; it wouldn't be without any of\n%s\n%s", one.seed,
+			strings.Join(needed(one.txns, one.chains), "\n"), shownHistory(one.txns, one.chains))
 		b.describe(first, mine)
 	}
 }

@@ -236,6 +236,21 @@ func (a *phantomAsk) passed(its []phantomVersion) (saw int, sure bool) {
 	return saw, found
 }
 
+// needed are the statements without which a history that is violated wouldn't be.
+func needed(txns []*phantomTxn, chains map[int][]phantomVersion) (texts []string) {
+	for _, t := range txns {
+		all := t.asks
+		for i := range all {
+			t.asks = append(append([]phantomAsk(nil), all[:i]...), all[i+1:]...)
+			if _, whole, _ := phantomTruth(txns, chains); whole {
+				texts = append(texts, t.tag+": "+all[i].text)
+			}
+		}
+		t.asks = all
+	}
+	return texts
+}
+
 func acyclic(arcs [][]int) bool {
 	before := make([]int, len(arcs))
 	for _, its := range arcs {
