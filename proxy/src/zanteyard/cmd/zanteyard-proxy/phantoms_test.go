@@ -11,7 +11,7 @@ import (
 )
 
 var (
-	histories      = flag.Int("histories", 8, "how many random histories with conditions are tried at each level")
+	phantoms       = flag.Int("histories", 8, "how many random histories with conditions are tried at each level")
 	historySeed    = flag.Int64("history-seed", 1, "of the first one")
 	phantomsMissed = flag.Bool("phantoms-missed", false, "show violated histories that aren't found")
 )
@@ -54,8 +54,8 @@ func TestPhantoms(t *testing.T) {
 	}{{"READ COMMITTED", 85}, {"REPEATABLE READ", 88}, {"SERIALIZABLE", 0}} {
 		t.Run(level.name, func(t *testing.T) {
 			all := &phantomSums{}
-			for done := 0; done < *histories && !t.Failed(); done += phantomRoom {
-				n := *histories - done
+			for done := 0; done < *phantoms && !t.Failed(); done += phantomRoom {
+				n := *phantoms - done
 				if n > phantomRoom {
 					n = phantomRoom
 				}
