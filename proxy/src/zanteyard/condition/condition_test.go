@@ -4,6 +4,7 @@ import (
 	"testing"
 
 	"zanteyard/condition"
+	"zanteyard/record"
 )
 
 const schema = `CREATE TABLE r (id int PRIMARY KEY, a int, b text, n numeric);`
@@ -130,6 +131,11 @@ func TestIndexFindsWhatCouldHold(t *testing.T) {
 	}
 	if index.Len() != 5 {
 		t.Error(index.Len())
+	}
+	for want, one := range map[int]*condition.Row{0: row("1", "1", "x"), 1: row("1", "?", "v"), 3: row("1", "1", "?"), 4: row("1", "?", "?")} {
+		if n := index.Unread(record.Relation(table.OID), one); n != want {
+			t.Errorf("%d conditions in place of %d ask for what isn't known", n, want)
+		}
 	}
 }
 

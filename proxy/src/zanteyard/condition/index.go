@@ -221,6 +221,18 @@ func (x *Index) Candidates(table record.Relation, take func(*Condition), rows ..
 	}
 }
 
+// Unread returns how many conditions ask a column of a row for a value that isn't known: Candidates hasn't got them.
+func (x *Index) Unread(table record.Relation, row *Row) (n int) {
+	if its := x.tables[table]; its != nil {
+		for _, one := range its.columns {
+			if row.value(one.column).known == notKnown {
+				n += one.count
+			}
+		}
+	}
+	return n
+}
+
 // find finds the conditions that ask the column for the row's value; none of them holds if that isn't known.
 func (d *drawer) find(row *Row, search uint64, take func(*Condition)) {
 	value := row.value(d.column)

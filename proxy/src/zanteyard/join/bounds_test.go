@@ -252,3 +252,21 @@ func TestAsksThatAreDroppedTwice(t *testing.T) {
 		t.Errorf("%d bytes", q.bytes)
 	}
 }
+
+// TestValuesUnknown: a row that was written with a value that isn't known may have been passed over, and is counted, once for
+// each condition on that value.
+func TestValuesUnknown(t *testing.T) {
+	row := condition.NewRow(nil)
+	b := newBench(t, Options{Sessions: 2})
+	b.connect(1)
+	for n := 0; n < 3; n++ {
+		its := &fakeCondition{kind: "y", d: n, values: map[*condition.Row][2]int{row: {100, 100}}, unknown: condition.Unknown}
+		b.tell(1, uint64(n), record.Transaction{Asks: []record.Ask{{Condition: its, From: b.now}}})
+	}
+	b.place += 100
+	b.core.commit(record.Commit{Number: 1001, LSN: b.place, Start: b.place - 50, Writes: []record.Write{
+		{Relation: 1, Key: "1", Inserted: true, New: row, Bytes: 10}}})
+	if n := b.core.counts.leftPassed[valueUnknown]; n != 3 {
+		t.Errorf("%d rows are counted: %v", n, b.core.counts.leftPassed)
+	}
+}

@@ -316,8 +316,13 @@ func (c *core) change(q *question, it fresh) {
 	}
 	is, was := q.holds(it.version), q.before(it, c.questions.lastGap(q.relation))
 	switch {
-	case is == condition.Unknown, was == condition.Unknown && is != condition.Yes:
-		return // nobody will know
+	case is == condition.Unknown:
+		if it.version.values != nil {
+			c.counts.leftPassed[valueUnknown]++
+		}
+		return
+	case was == condition.Unknown && is != condition.Yes:
+		return // nobody will know, and nothing is lost: who passed it over before read nothing else of it
 	case was != condition.Unknown && (is == condition.Yes) == (was == condition.Yes):
 		return
 	}
@@ -438,6 +443,11 @@ func (c *core) changeAll(table *tableAsks, it fresh) {
 			c.change(q, it)
 		}
 	}, rows...)
+	if row, w := it.version.values, it.version.writer; row != nil && !w.done && w.fate != folded {
+		if n := c.questions.index.Unread(it.row.id.relation, row); n > 0 {
+			c.counts.leftPassed[valueUnknown] += uint64(n)
+		}
+	}
 }
 
 // before returns the row as the version before left it, nil if that isn't known.

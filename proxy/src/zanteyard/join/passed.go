@@ -22,6 +22,7 @@ const (
 	askContradicts   = "a row that each version it may have seen satisfies"
 	askGap           = "a row of which a change may be missing"
 	askBeside        = "beside a row that may have changed since it was read"
+	valueUnknown     = "a change to a value that isn't known: too long, or a number that may be NULL or NaN"
 	tooManyRegisters = "more rows than are kept of one condition"
 	tooManyChanges   = "changes from before their condition was known, more than are looked at"
 	tooManyPassed    = "more rows than are kept of one transaction's conditions"

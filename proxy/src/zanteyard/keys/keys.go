@@ -77,6 +77,7 @@ func FromSlot(typeOID uint32, text string) (string, bool) {
 func SlotSettings() map[string]string {
 	return map[string]string{
 		"DateStyle":          "ISO, YMD",
+		"IntervalStyle":      "postgres",
 		"TimeZone":           "UTC",
 		"bytea_output":       "hex",
 		"extra_float_digits": "3",
