@@ -43,3 +43,22 @@ func TestDeep(t *testing.T) {
 		}
 	}
 }
+
+// TestTooDeep: what is done at each level of a tree may look at all that is below it, so a tree has few levels.
+func TestTooDeep(t *testing.T) {
+	cache := NewCache(none(t))
+	for _, one := range []struct {
+		text string
+		is   bool
+	}{
+		{"SELECT 1 WHERE " + strings.Repeat("NOT ", 150) + "true", false},
+		{"SELECT 1 WHERE " + strings.Repeat("NOT ", 250) + "true", true},
+		{"SELECT 1 FROM " + strings.Repeat("(SELECT 1 FROM ", 90) + "t" + strings.Repeat(") x", 90), false},
+		{"SELECT 1 FROM " + strings.Repeat("(SELECT 1 FROM ", 180) + "t" + strings.Repeat(") x", 180), true},
+		{"SELECT 1 WHERE true" + strings.Repeat(" AND true", 900), false}, // that is one list
+	} {
+		if p, _ := cache.Plan(one.text); p.Unknown != one.is {
+			t.Errorf("too deep %v: %.60s", p.Unknown, one.text)
+		}
+	}
+}

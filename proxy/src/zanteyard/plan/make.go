@@ -109,7 +109,11 @@ func (c *Cache) make(state *cached, s *scanner) *Plan {
 	case err != nil:
 		p = &Plan{Kind: Other, Shape: m.shape, Unknown: true, MayWriteUnseen: true, MayCommit: true, ChangesNames: true,
 			Foreign: true}
-		p.leaveOut("it can't be parsed")
+		if err == errDeep {
+			p.leaveOut("it is too deeply nested")
+		} else {
+			p.leaveOut("it can't be parsed")
+		}
 	case len(stmts) == 0:
 		p = &Plan{Kind: Empty}
 	case len(stmts) > 1:

@@ -31,7 +31,37 @@ func parse(text string) ([]node, error) {
 	if err := json.Unmarshal([]byte(C.GoString(result.parse_tree)), &tree); err != nil {
 		return nil, fmt.Errorf("reading the parse tree: %w", err)
 	}
+	for _, stmt := range tree.Stmts {
+		if isDeeper(map[string]any(stmt), mostLevels) {
+			return nil, errDeep
+		}
+	}
 	return tree.Stmts, nil
+}
+
+// mostLevels is how many nodes and lists of a parse tree may be in one another. A statement of 200 NOT has as many: what is
+// looked up at each level of a deeper one may be all that is below it.
+const mostLevels = 600
+
+var errDeep = errors.New("the statement is too deeply nested")
+
+// isDeeper reports whether a value has more levels.
+func isDeeper(value any, than int) bool {
+	switch v := value.(type) {
+	case map[string]any:
+		for _, below := range v {
+			if isDeeper(below, than-1) {
+				return true
+			}
+		}
+	case []any:
+		for _, below := range v {
+			if isDeeper(below, than-1) {
+				return true
+			}
+		}
+	}
+	return than < 0
 }
 
 // Parse returns the statements of a text, each as one node of the parse tree: {"SelectStmt": {..}}.

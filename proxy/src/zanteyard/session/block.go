@@ -150,17 +150,17 @@ func (s *Session) firstOf(batch []byte, before *statement) (st *statement, rest 
 			if !ok || !ok2 {
 				return nil, nil
 			}
-			st := s.look(string(name), text)
+			st := s.look(string(nameTaken(name)), text)
 			if s.ahead = st; m[0] == 'P' {
 				st.types = append([]byte(nil), types...)
 			}
 			return st, batch
 		case 'B':
 			_, name, _, _ := wire.Names(m)
-			if before != nil && string(name) == before.name {
+			if before != nil && string(nameTaken(name)) == before.name {
 				continue
 			}
-			st := s.names.statements[string(name)]
+			st := s.names.statements[string(nameTaken(name))]
 			if st == nil || st.kind() != plan.Begin && st.name == "" && !st.altered {
 				return nil, nil
 			}

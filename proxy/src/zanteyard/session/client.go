@@ -195,7 +195,7 @@ func (s *Session) parse(o *output, m []byte, start, end int) {
 		s.queue.push(expectation{message: 'P'})
 		return
 	}
-	st := s.look(string(name), text)
+	st := s.look(string(nameTaken(name)), text)
 	st.types = append([]byte(nil), types...)
 	st.part = s.queue.parts
 	if st.plan != nil && (st.plan.Kind == plan.Commit || st.plan.Kind == plan.PrepareTransaction) {
@@ -242,7 +242,7 @@ func (s *Session) bind(o *output, m []byte, start, end int) {
 	}
 	s.uses(string(b.Statement))
 	s.uses(string(b.Portal))
-	st := s.names.statements[string(b.Statement)]
+	st := s.names.statements[string(nameTaken(b.Statement))]
 	p := &portal{on: st}
 	if len(b.Portal) > 0 {
 		p.name = portalName(b.Portal)
@@ -418,7 +418,7 @@ func (s *Session) describe(o *output, m []byte, start, end int) {
 	if len(m) > wire.Header {
 		name, _, _ := wire.Text(m[wire.Header+1:])
 		if m[wire.Header] == 'S' {
-			st := s.names.statements[string(name)]
+			st := s.names.statements[string(nameTaken(name))]
 			e.on = st
 			if st != nil && st.altered && st.kind() != plan.Declare {
 				e.hides, e.hidden = st.plan, st.use.hidden
@@ -485,7 +485,7 @@ func (s *Session) close(o *output, m []byte, start, end int) {
 	var gone *statement
 	if m[wire.Header] == 'S' {
 		s.replay.valid = false
-		if gone = s.names.statements[string(name)]; gone != nil {
+		if gone = s.names.statements[string(nameTaken(name))]; gone != nil {
 			e.undo, e.name, e.previous = undoStatement, gone.name, gone
 			s.names.setStatement(gone.name, nil)
 		}

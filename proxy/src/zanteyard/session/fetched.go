@@ -163,13 +163,16 @@ func (c *cursor) has(columns []wire.Column) bool {
 	return true
 }
 
-// mostPortalName is what the server takes of a portal's name (NAMEDATALEN).
-const mostPortalName = 63
+// mostName is what the server takes of the name of a statement or portal (NAMEDATALEN).
+const mostName = 63
+
+// nameTaken is the part of a name that the server takes.
+func nameTaken(name []byte) []byte {
+	if len(name) > mostName {
+		name = name[:mostName]
+	}
+	return name
+}
 
 // portalName is the name by which the server knows a portal.
-func portalName(name []byte) string {
-	if len(name) > mostPortalName {
-		name = name[:mostPortalName]
-	}
-	return strings.Clone(string(name))
-}
+func portalName(name []byte) string { return strings.Clone(string(nameTaken(name))) }

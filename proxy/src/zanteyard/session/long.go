@@ -24,7 +24,7 @@ func (s *Session) long(begin []byte) []byte {
 	case 'P':
 		s.begin()
 		name, _, _ := wire.Text(begin[wire.Header:])
-		st := &statement{name: string(name), others: s.trust.others, unseen: tooLong.unseen}
+		st := &statement{name: string(nameTaken(name)), others: s.trust.others, unseen: tooLong.unseen}
 		s.queue.push(expectation{message: 'P', on: st, name: st.name, undo: undoStatement,
 			previous: s.names.statements[st.name], cleared: st.name == ""})
 		s.names.setStatement(st.name, st)
@@ -32,7 +32,7 @@ func (s *Session) long(begin []byte) []byte {
 	case 'B':
 		s.begin()
 		bound, name, _, _ := wire.Names(begin)
-		st := s.names.statements[string(name)]
+		st := s.names.statements[string(nameTaken(name))]
 		if st != nil && st.altered {
 			s.original(o, st) // the formats of its columns come last, but the length, which includes them, first
 		}

@@ -1,6 +1,7 @@
 package session
 
 import (
+	"strings"
 	"testing"
 
 	"github.com/jackc/pgproto3/v2"
@@ -37,5 +38,32 @@ func TestNamesInErrors(t *testing.T) {
 			t.Errorf("got\n%swanted\n%s", show(got), show(wanted))
 		}
 		p.settle()
+	}
+}
+
+// TestNamesOfStatementsThatAreCut: to the server two names of statements are one if their first 63 bytes are.
+func TestNamesOfStatementsThatAreCut(t *testing.T) {
+	needServer(t)
+	sql(t, fill)
+	first := strings.Repeat("n", 63)
+	one, other := first+"one", first+"other"
+	shut := func(name string) step {
+		return messages('Z', &pgproto3.Close{ObjectType: 'S', Name: name}, &pgproto3.Sync{})
+	}
+	steps := []step{
+		named(one, "SELECT id FROM t WHERE v = 20"), bound(one, nil), bound(other, nil), bound(first, nil),
+		shut(other), bound(one, nil), named(other, "SELECT v, id FROM t WHERE id = 3"), bound(one, nil), bound(other, nil), bound(one, nil),
+		messages('Z', &pgproto3.Describe{ObjectType: 'S', Name: one}, &pgproto3.Sync{}), shut(first), bound(one, nil),
+	}
+	plain, p := direct(t, "postgres"), through(t, "postgres", nil)
+	p.warm("SELECT id FROM t WHERE v = 20", "SELECT v, id FROM t WHERE id = 3")
+	for round := 0; round < 2; round++ {
+		for i, its := range steps {
+			want, got := plain.do(its), p.do(its)
+			if !same(got, want) {
+				t.Errorf("round %d, step %d: got\n%sand not\n%s", round, i, show(got), show(want))
+			}
+			p.settle()
+		}
 	}
 }

@@ -7,8 +7,24 @@ import (
 	"zanteyard/wire"
 )
 
-// mostNow is how many of a client's bytes a loop looks at itself, since parsing a long statement takes time.
-const mostNow = 16 << 10
+// A loop looks itself at so many of a client's bytes, and at statements of so many, since to parse and plan a long one takes
+// time, for which all clients of the loop would wait.
+const (
+	mostNow     = 16 << 10
+	mostPlanned = 2 << 10
+)
+
+// hasLong reports whether a text in whole messages is longer than those that a loop plans itself.
+func hasLong(batch []byte) bool {
+	for len(batch) > mostPlanned {
+		n := wire.Length(batch)
+		if n > mostPlanned && (batch[0] == 'Q' || batch[0] == 'P') {
+			return true
+		}
+		batch = batch[n:]
+	}
+	return false
+}
 
 // direction is one of a session's two directions while a loop serves it. Whatever has to wait is done by a goroutine,
 // which then takes everything that arrives until there is nothing left to read.
@@ -141,7 +157,7 @@ func (d *direction) sendLater(batch []byte, more int) func() error {
 // forth handles messages from the client.
 func (d *direction) forth(batch []byte, more int) (left func() error, err error) {
 	s := d.session
-	if more > 0 || len(batch) > mostNow || s.greeting.Load() != nil || !s.writes.TryLock() {
+	if more > 0 || len(batch) > mostNow || hasLong(batch) || s.greeting.Load() != nil || !s.writes.TryLock() {
 		return d.sendLater(batch, more), nil
 	}
 	if s.left.Load() {
