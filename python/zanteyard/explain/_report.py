@@ -7,7 +7,7 @@ from __future__ import annotations
 
 from collections.abc import Iterable, Iterator, Sequence
 from dataclasses import dataclass, replace
-from typing import Any
+from typing import Any, overload
 
 from ..core._circumstances import caller_of, circumstances, clock_of, values_of
 from ..core._records import AuditId, History, Logged, Naming, Pending, ShownId
@@ -67,7 +67,7 @@ class Story:
     seen: tuple[str, ...] = ()  # when and where they began and what values they had, if known
     because: tuple[str, ...] = ()  # the reasons, as text
     script: str = ""  # with which the auditor alone reports the same
-    order: tuple[str, ...] = ()  # of a serial or pending verdict
+    order: Sequence[str] = ()  # of a serial or pending verdict
     waiting: tuple[str, ...] = ()  # the reads that wait for a transaction
     promise: Promise = SERIALIZABLE  # that the verdict is about
     standing: Standing = Standing()  # what else a violation breaks, and what it doesn't
@@ -87,17 +87,42 @@ class Story:
         return replace(self, standing=standing)
 
 
+class NamedOrder(Sequence[str]):
+    """The names of an order's transactions, each of which is looked up when it is wanted."""
+
+    def __init__(self, certificate: Sequence[Sequence[Any]], history: ScriptHistory) -> None:
+        """`certificate` is the order as a report has it."""
+        self._certificate, self._history = certificate, history
+
+    @overload
+    def __getitem__(self, at: int) -> str: ...
+
+    @overload
+    def __getitem__(self, at: slice) -> tuple[str, ...]: ...
+
+    def __getitem__(self, at: int | slice) -> str | tuple[str, ...]:
+        if isinstance(at, slice):
+            return tuple(map(self._name, self._certificate[at]))
+        return self._name(self._certificate[at])
+
+    def __len__(self) -> int:
+        return len(self._certificate)
+
+    def _name(self, half: Sequence[Any]) -> str:
+        session, number, *event = half
+        return " ".join([self._history.called(AuditId((session, number))), *event])
+
+
 def verdict_story(
     verdict: Verdict, history: ScriptHistory, promise: Promise = SERIALIZABLE
 ) -> Story:
     """The story of a verdict other than violated."""
-    order: tuple[str, ...] = ()
+    order: Sequence[str] = ()
     if verdict.kind in (Kind.SERIAL, Kind.PENDING):
-        order = tuple(
-            " ".join([history.called(AuditId((session, number))), *event])
-            for session, number, *event in verdict.certificate
-        )
-    waiting = tuple(_waits(history, read) for read in history.pending())
+        order = NamedOrder(verdict.certificate, history)
+    waiting: tuple[str, ...] = ()
+    if verdict.kind is not Kind.SERIAL:  # in which no read waits
+        waiting = tuple(_waits(history, read) for read in history.pending())
     counts = tuple(verdict.counts)
     return Story(verdict.kind, counts, order=order, waiting=waiting, promise=promise)
 
@@ -253,7 +278,7 @@ def _one_story(story: Story) -> Iterator[str]:
         yield f"    {line}"
     yield from story.standing.lines()
     if story.order:
-        between = ", " if any(" " in name for name in story.order) else " "
+        between = ", " if any(" " in name for name in story.order[:SHOWN]) else " "
         yield f"  one such order: {_front(story.order, between)}"
     for line in story.waiting[:SHOWN]:
         yield f"    {line}"

@@ -2,7 +2,6 @@
 in a file next to the script, `SCRIPT.names`, which is used as long as the script is the one that it
 was made for."""
 
-import functools
 import hashlib
 import json
 import os
@@ -20,6 +19,9 @@ PART, REST = "this part of the file", "the rest of the file"
 VERSION = 1
 PIECE = 2048  # transactions whose names a process writes at a time
 BEFORE_TRANSACTIONS = ',"transactions":['  # the end of the rest; no name has it unescaped
+# What is between two transactions of a session, and between two sessions: after the last text of
+# one, and before the name of the next. Nothing else has them, since a mark in a text is escaped.
+BETWEEN, BETWEEN_SESSIONS = '"],["', '"]],[["'
 
 
 # A read as its key and source, (5, "init") or (5, 0, 1), or a write as its key alone.
@@ -156,55 +158,48 @@ def read_names(script: str) -> tuple[ScriptNames | None, str]:
         return None, f"{path} can't be read, and isn't used: {error}"
 
 
-class LateNames(Sequence[Sequence[NamedTransaction]]):
-    """The named transactions of each session, which are read when one of them is wanted."""
+class LateSession(Sequence[NamedTransaction]):
+    """The named transactions of a session, each of which is read when it is wanted."""
 
     def __init__(self, text: str) -> None:
-        """`text` is a JSON list of them."""
-        self._text = text
-
-    @functools.cached_property
-    def _sessions(self) -> list[list[NamedTransaction]]:
-        return _sessions_of(json.loads(self._text))
+        """`text` is a JSON list of them, without the first and the last bracket and mark."""
+        self._texts = text.split(BETWEEN)
 
     @overload
-    def __getitem__(self, at: int) -> list[NamedTransaction]: ...
+    def __getitem__(self, at: int) -> NamedTransaction: ...
 
     @overload
-    def __getitem__(self, at: slice) -> list[list[NamedTransaction]]: ...
+    def __getitem__(self, at: slice) -> list[NamedTransaction]: ...
 
-    def __getitem__(
-        self, at: int | slice
-    ) -> list[NamedTransaction] | list[list[NamedTransaction]]:
-        return self._sessions[at]
+    def __getitem__(self, at: int | slice) -> NamedTransaction | list[NamedTransaction]:
+        if isinstance(at, slice):
+            return [_named(json.loads(f'["{text}"]')) for text in self._texts[at]]
+        return _named(json.loads(f'["{self._texts[at]}"]'))
 
     def __len__(self) -> int:
-        return len(self._sessions)
+        return len(self._texts)
 
 
 def names_just_written(script: str) -> ScriptNames:
-    """The names next to a script that this process has had written. Raises OSError."""
+    """The names next to a script that this process has had written: each transaction has a name, is
+    read when it is wanted, and no session is empty. Raises OSError."""
     with open(script + NAMES, encoding="utf-8") as file:
         front, before, transactions = file.read().partition(BEFORE_TRANSACTIONS)
-    if not before:
+    text = transactions.rstrip()
+    if not before or not text.startswith('[["') or not text.endswith('"]]]}'):
         raise OSError(f"{script}{NAMES} can't be read")
-    sessions = LateNames(f"[{transactions.rstrip().removesuffix('}')}")
+    sessions = [LateSession(each) for each in text[3:-5].split(BETWEEN_SESSIONS)]
     return _names_of(json.loads(f"{front}}}"), sessions)
 
 
 def _sessions_of(sessions: Any) -> list[list[NamedTransaction]]:
-    return [
-        [
-            NamedTransaction(
-                str(name),
-                str(outcome),
-                tuple((deed, str(deed_text)) for deed, deed_text in texts),
-                str(where),
-            )
-            for name, outcome, texts, where in session
-        ]
-        for session in sessions
-    ]
+    return [[_named(each) for each in session] for session in sessions]
+
+
+def _named(transaction: Any) -> NamedTransaction:
+    name, outcome, texts, where = transaction
+    deeds = tuple((deed, str(text)) for deed, text in texts)
+    return NamedTransaction(str(name), str(outcome), deeds, str(where))
 
 
 def _names_of(whole: Any, transactions: Sequence[Sequence[NamedTransaction]]) -> ScriptNames:
