@@ -66,6 +66,9 @@ func (m *maker) asksBy(p *Plan, body node) {
 	}
 	if !body.has("fromClause") {
 		m.asksForNone(p, "SelectStmt", body, body)
+		if p.follow == nil && p.NotFollowed == "" && len(p.Unseen) > 0 && m.reads(body["targetList"]) { // SELECT EXISTS (..)
+			p.NotFollowed = p.Unseen[0].Reason
+		}
 		return
 	}
 	if len(p.Sources) == 0 && len(p.Unseen) == 0 { // it has only the server's own tables
@@ -75,6 +78,18 @@ func (m *maker) asksBy(p *Plan, body node) {
 	if p.follow = f; f == nil {
 		p.NotFollowed = reason
 	}
+}
+
+// reads reports whether something in a tree reads a table that isn't the server's own.
+func (m *maker) reads(tree any) (is bool) {
+	visit(tree, func(kind string, body node) bool {
+		if kind == "RangeVar" {
+			_, known := m.catalog.Find(body.text("schemaname"), body.text("relname"))
+			is = is || known
+		}
+		return true
+	})
+	return is
 }
 
 // asksToWrite decides the same of an UPDATE or a DELETE.

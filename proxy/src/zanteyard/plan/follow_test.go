@@ -88,6 +88,8 @@ func TestFollowed(t *testing.T) {
 		{"", "UPDATE r SET a = 1 FROM other WHERE r.a = 1", "several tables"}, {"", "DELETE FROM secret WHERE a = 1", "row security"},
 		{"", "UPDATE triggered SET a = 1 WHERE a = 2", "a trigger may keep a row from being written"},
 		{"", "UPDATE ruled SET a = 1 WHERE a = 2", ""}, {"", "DELETE FROM r USING other WHERE r.a = other.a", "several tables"}, {"", "SELECT 1", ""}, {"", "SELECT now()", ""},
+		{"", "SELECT EXISTS (SELECT FROM r WHERE a = 1)", aSubquery}, {"", "SELECT (SELECT count(*) FROM r WHERE a = 1) + 1", aSubquery},
+		{"", "SELECT EXISTS (SELECT FROM pg_class)", ""}, {"", "SELECT ARRAY(SELECT 1)", ""},
 	} {
 		if x.texts != "" {
 			cache.Plan(x.texts)
