@@ -54,15 +54,15 @@ func sleeps(ctx context.Context, pause time.Duration) bool {
 	}
 }
 
-// isBehindOwn reports whether the server runs a statement of the proxy's own, or the client's waits in the proxy.
+// isBehindOwn reports whether the server runs a statement of the proxy's own, or the client's waits in the proxy. What the proxy
+// adds to a series of the client's belongs to that: the server may keep its answers back until the series is over.
 func (s *Session) isBehindOwn() bool {
 	s.state.Lock()
 	defer s.state.Unlock()
 	if s.blind.Load() || s.gone {
 		return false
 	}
-	first := s.queue.first()
-	return s.keeps.Load() || s.replay.due || first != nil && first.kind != clients
+	return s.keeps.Load() || s.replay.due || s.queue.isOwn()
 }
 
 // runsNow returns which of the client's statements, or series of messages, the server runs, counted from 1; 0 for none, and

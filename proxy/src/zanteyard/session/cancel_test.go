@@ -9,6 +9,8 @@ import (
 	"testing"
 	"time"
 
+	"github.com/jackc/pgproto3/v2"
+
 	"zanteyard/own"
 	"zanteyard/wire"
 )
@@ -123,5 +125,55 @@ func TestCancelledAtRest(t *testing.T) {
 	}
 	if got := p.query("SELECT v FROM t WHERE id = 2"); len(got) != 4 {
 		t.Errorf("then %s", show(got))
+	}
+}
+
+// TestCancelledBehindOwnMessages: a request to cancel ends the client's statement, too, if messages of the proxy's own are in
+// the same series. The server says nothing of these until the series is over, or its buffer full.
+func TestCancelledBehindOwnMessages(t *testing.T) {
+	needServer(t)
+	sql(t, fill)
+	const text = "SELECT v, pg_sleep(%d) AS behind_own FROM t WHERE id = 1"
+	sync := &pgproto3.Sync{}
+	for name, x := range map[string]struct {
+		before func(p *proxied)
+		runs   []pgproto3.FrontendMessage
+	}{
+		"the twin of a named statement": {func(p *proxied) {
+			p.do(messages('Z', &pgproto3.Parse{Name: "s", Query: fmt.Sprintf(text, 15)}, sync))
+			p.settle()
+		}, []pgproto3.FrontendMessage{&pgproto3.Bind{PreparedStatement: "s"}, &pgproto3.Execute{}, sync}},
+		"the description of a cursor": {func(p *proxied) {
+			declare := "DECLARE c CURSOR FOR " + fmt.Sprintf(text, 0) + " OR id = 2 AND pg_sleep(15) IS NOT NULL"
+			p.warm("BEGIN", declare, "COMMIT")
+			p.query("BEGIN")
+			p.query(declare)
+		}, []pgproto3.FrontendMessage{&pgproto3.Execute{Portal: "c"}, sync}},
+	} {
+		t.Run(name, func(t *testing.T) {
+			p := through(t, "postgres", func(o *Options) { o.Bound, o.Shared = time.Minute, nil })
+			x.before(p)
+			p.session.state.Lock()
+			backend := p.session.backend
+			p.session.state.Unlock()
+			p.send(messages('Z', x.runs...).send)
+			until(t, "it runs", func() bool {
+				return len(sql(t, fmt.Sprintf("SELECT FROM pg_stat_activity WHERE pid = %d AND wait_event = 'PgSleep'", backend))) == 1
+			})
+			if p.session.state.Lock(); p.session.queue.first().kind == clients {
+				t.Error("no message of the proxy's own is the first one")
+			}
+			p.session.state.Unlock()
+			began := time.Now()
+			p.session.Cancel(context.Background(), p.passCancel)
+			got := p.until('Z')
+			if len(got) < 2 || got[len(got)-2][0] != 'E' || string(wire.Field(got[len(got)-2], 'C')) != "57014" {
+				t.Errorf("after %v: %s", time.Since(began), show(got))
+			}
+			p.query("ROLLBACK")
+			if got := p.query("SELECT v FROM t WHERE id = 2"); len(got) != 4 {
+				t.Errorf("then %s", show(got))
+			}
+		})
 	}
 }

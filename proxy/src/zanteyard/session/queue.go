@@ -152,6 +152,16 @@ func (e *expectation) ends() bool {
 	return e.kind == clients && (e.message == 'S' || e.message == 'Q' || e.message == 'F')
 }
 
+// isOwn reports whether the series of messages that is answered now ends in a message of the proxy's own.
+func (q *queue) isOwn() bool {
+	for i := q.head; i < len(q.list); i++ {
+		if e := &q.list[i]; e.message == 'S' || e.message == 'Q' || e.message == 'F' {
+			return e.kind != clients
+		}
+	}
+	return false
+}
+
 // running counts the statement, or series of messages, of the client's that isn't answered; 0 if there is none, or several.
 func (q *queue) running() uint64 {
 	n := 0
