@@ -261,7 +261,8 @@ func (s *Session) bind(o *output, m []byte, start, end int) {
 		s.fresh(st)
 	}
 	may := s.usable(st)
-	may = may && !beyond
+	// SQL's FETCH and MOVE know a portal that has a name, and to them one with RETURNING is another.
+	may = may && !beyond && (p.name == "" || !st.plan.AddsReturning)
 	if st.use != nil {
 		st.use.runs = true
 	}

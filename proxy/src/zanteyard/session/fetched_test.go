@@ -204,3 +204,33 @@ func TestCursorsAsPortals(t *testing.T) {
 		})
 	}
 }
+
+// TestWritesByNamedPortals: to SQL a portal with a name is a cursor, and one of an UPDATE without RETURNING can't be run by it, or
+// once more. No columns are added to it.
+func TestWritesByNamedPortals(t *testing.T) {
+	needServer(t)
+	sql(t, fill)
+	const update = "UPDATE t SET v = v + 1 WHERE id = 2"
+	run := func(c *client, name string) (all [][]byte) {
+		all = append(all, c.query("BEGIN")...)
+		all = append(all, c.do(messages('Z', &pgproto3.Parse{Name: name, Query: update}, &pgproto3.Bind{PreparedStatement: name, DestinationPortal: "c"},
+			&pgproto3.Describe{ObjectType: 'P', Name: "c"}, &pgproto3.Execute{Portal: "c"}, &pgproto3.Sync{}))...)
+		all = append(all, c.query("SAVEPOINT s")...)
+		for _, text := range []string{"MOVE 1 FROM c", "FETCH ALL FROM c"} {
+			all = append(append(all, c.query(text)...), c.query("ROLLBACK TO s")...)
+		}
+		all = append(all, c.do(messages('Z', &pgproto3.Execute{Portal: "c"}, &pgproto3.Sync{}))...)
+		all = append(all, c.query("ROLLBACK")...)
+		return append(all, c.do(messages('Z', &pgproto3.Close{ObjectType: 'S', Name: name}, &pgproto3.Sync{}))...)
+	}
+	plain, p := direct(t, "postgres"), through(t, "postgres", nil)
+	p.warm(update)
+	for _, name := range []string{"", "u"} {
+		for i := 0; i < 2; i++ {
+			if want, got := run(plain, name), run(p.client, name); !same(got, want) {
+				t.Errorf("statement %q: got\n%sand not\n%s", name, show(got), show(want))
+			}
+			p.settle()
+		}
+	}
+}
