@@ -615,6 +615,36 @@ func TestJoinsRefused(t *testing.T) {
 	}
 }
 
+// TestLikewiseRefused: that a part which isn't followed holds of a row says something only of rows whose columns have the same
+// values to every function: equal numbers may be written in two ways, and so may texts of a collation that isn't
+// deterministic; and the log doesn't have what is generated.
+func TestLikewiseRefused(t *testing.T) {
+	_, all := open(t, "likewise_refused", `CREATE COLLATION loose (provider = icu, locale = 'und-u-ks-level2', deterministic = false);
+		CREATE TABLE k (id int PRIMARY KEY, x int, p numeric, g int GENERATED ALWAYS AS (x + 1) STORED, c text COLLATE loose, t text);
+		CREATE TABLE b (id int PRIMARY KEY, z int)`)
+	const join = "SELECT * FROM k JOIN b ON b.id = k.id WHERE b.z = 1 AND "
+	for text, followed := range map[string]bool{
+		join + "k.x % 2 = 0": true, join + "k.t || 'x' = 'ax'": true, join + "k.p * 2 > 3": false, join + "k.g % 2 = 0": false,
+		join + "k.c || 'x' = 'ax'": false, join + "k.x % 2 = k.p * 2": false,
+		// A row that is locked may be newer than what the subquery has seen.
+		"SELECT * FROM k WHERE t = 'a' AND x IN (SELECT z FROM b)":            true,
+		"SELECT * FROM k WHERE t = 'a' AND x IN (SELECT z FROM b) FOR UPDATE": false,
+	} {
+		stmt, err := parsed(t, text)
+		if err != nil {
+			t.Fatal(err)
+		}
+		sides, err := condition.Joined(stmt, text, all)
+		is := err == nil
+		for _, side := range sides {
+			is = is && (side.Name != "k" || side.Why == nil)
+		}
+		if is != followed {
+			t.Errorf("%s: it is followed: %v, %v", text, is, err)
+		}
+	}
+}
+
 // TestJoinsOfOtherNames: a name that doesn't mean a column of the join's tables is refused for each of them.
 func TestJoinsOfOtherNames(t *testing.T) {
 	_, all := open(t, "joins_of_other_names", joinsSchema)
