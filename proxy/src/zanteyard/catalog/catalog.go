@@ -54,6 +54,8 @@ type Table struct {
 	Indexes [][]int16
 	// Unique are the sets of columns, by number, other than the key, of which no two rows have the same values, except NULL.
 	Unique [][]int16
+	// References are its foreign keys that the server checks, to tables like itself (referencesSQL).
+	References []Reference
 
 	system   system
 	children int // tables that inherit from it, except partitions
@@ -193,6 +195,7 @@ func Load(ctx context.Context, query Query, options ...Option) (*Catalog, error)
 		{"what columns mean", meaningsSQL, meanings.takeColumn},
 		{"indexes", indexesSQL, c.takeIndex}, // whose columns are copies
 		{"triggers", triggersSQL, c.takeTrigger},
+		{"foreign keys", referencesSQL, c.takeReference},
 		{"what tables call", callsSQL, c.takeCall},
 		{"what planning calls", plannedSQL, c.takePlanned},
 		{"what statements call", foreignSQL, c.takeForeign},

@@ -66,6 +66,24 @@ WHERE i.indisvalid`)
 
 var triggersSQL = own.SQL(`SELECT DISTINCT tgrelid::pg_catalog.text FROM pg_catalog.pg_trigger WHERE NOT tgisinternal AND tgenabled <> 'D'`)
 
+// Foreign keys that the server checks: a row that is inserted has the row to which it refers, from then on. A trigger or a rule
+// on the table could keep ON DELETE CASCADE and the like from what they do, and what a subscription writes isn't checked.
+// Tables with partitions or inheritance have rows of several.
+var referencesSQL = own.SQL(`SELECT k.conrelid::pg_catalog.text, k.confrelid::pg_catalog.text, pg_catalog.array_to_string(k.conkey, ' '),
+  pg_catalog.array_to_string(k.confkey, ' '), (NOT EXISTS (SELECT FROM pg_catalog.pg_attribute a WHERE a.attrelid = k.conrelid
+    AND a.attnum = ANY (k.conkey) AND NOT a.attnotnull))::pg_catalog.text
+FROM pg_catalog.pg_constraint k
+WHERE k.contype = 'f' AND k.convalidated
+  AND NOT EXISTS (SELECT FROM pg_catalog.pg_class c WHERE c.oid IN (k.conrelid, k.confrelid)
+    AND (c.relkind <> 'r' OR c.relispartition OR c.relpersistence <> 'p'))
+  AND NOT EXISTS (SELECT FROM pg_catalog.pg_inherits h WHERE h.inhparent IN (k.conrelid, k.confrelid))
+  AND (SELECT pg_catalog.count(*) FROM pg_catalog.pg_trigger t WHERE t.tgconstraint = k.oid AND t.tgenabled IN ('O', 'A')) = 4
+  AND NOT EXISTS (SELECT FROM pg_catalog.unnest(k.conpfeqop) o(number) WHERE o.number >= 16384)
+  AND (k.confdeltype IN ('a', 'r') AND k.confupdtype IN ('a', 'r')
+    OR NOT EXISTS (SELECT FROM pg_catalog.pg_trigger t WHERE t.tgrelid = k.conrelid AND NOT t.tgisinternal)
+      AND NOT EXISTS (SELECT FROM pg_catalog.pg_rewrite r WHERE r.ev_class = k.conrelid))
+  AND NOT EXISTS (SELECT FROM pg_catalog.pg_subscription_rel s WHERE s.srrelid IN (k.conrelid, k.confrelid))`)
+
 // What writing to a table may call of what others have made: functions and operators of defaults, constraints, indexes
 // and partition keys. Two columns are tables, of which the second one's rows change with the first one's, by a foreign key.
 var callsSQL = own.SQL(`SELECT DISTINCT x.relation::pg_catalog.text, '0' FROM (
@@ -163,7 +181,7 @@ const ColumnsStampSQL = `(SELECT pg_catalog.concat_ws(' ', ` + besideColumns + `
   WHERE ca.attrelid OPERATOR(pg_catalog.=) c.oid AND ca.attnum OPERATOR(pg_catalog.>) 0)`
 
 // besideColumns: row security may hide rows, triggers and rules may keep them from being written, and partitions may be
-// attached and detached.
+// attached and detached. The server checks foreign keys by triggers of its own, on both tables.
 const besideColumns = `c.relrowsecurity, CASE WHEN c.relhastriggers THEN ` + triggersOf + `c.oid) END,
     CASE WHEN c.relhasrules THEN (SELECT pg_catalog.concat_ws(',', pg_catalog.count(*), pg_catalog.sum(ru.xmin::pg_catalog.text::pg_catalog.int8))
       FROM pg_catalog.pg_rewrite ru WHERE ru.ev_class OPERATOR(pg_catalog.=) c.oid) END,
@@ -174,7 +192,7 @@ const besideColumns = `c.relrowsecurity, CASE WHEN c.relhastriggers THEN ` + tri
         ORDER BY parts.inhrelid) FROM parts) END`
 
 const triggersOf = `(SELECT pg_catalog.concat_ws(',', pg_catalog.count(*), pg_catalog.sum(tg.xmin::pg_catalog.text::pg_catalog.int8))
-      FROM pg_catalog.pg_trigger tg WHERE NOT tg.tgisinternal AND tg.tgrelid OPERATOR(pg_catalog.=) `
+      FROM pg_catalog.pg_trigger tg WHERE tg.tgrelid OPERATOR(pg_catalog.=) `
 
 // MadeSQL is a text that changes with what somebody has made by the names that conditions use: operators, implicit casts,
 // functions that make ranges. It changes with the labels of enumerations, too.

@@ -189,13 +189,9 @@ func (c *Catalog) takeIndex(row []string) error {
 	if err != nil {
 		return err
 	}
-	var columns []int16
-	for _, text := range strings.Fields(row[4]) {
-		at, err := strconv.ParseInt(text, 10, 16)
-		if err != nil {
-			return err
-		}
-		columns = append(columns, int16(at))
+	columns, err := columnNumbers(row[4])
+	if err != nil {
+		return err
 	}
 	switch row[5] { // these can return what was indexed
 	case "btree", "gist", "spgist":
@@ -243,6 +239,49 @@ func (c *Catalog) takeTrigger(row []string) error {
 		t.Triggers = true
 	}
 	return nil
+}
+
+// Reference is a foreign key.
+type Reference struct {
+	To            uint32
+	Columns, Keys []int16 // those of the table, by number, and those of the other one that they equal
+	Required      bool    // none of the columns can be NULL: a row with one that is refers to nothing
+}
+
+func (c *Catalog) takeReference(row []string) error {
+	if err := width(row, 5); err != nil {
+		return err
+	}
+	from, err := number(row, 0)
+	if err != nil {
+		return err
+	}
+	its := Reference{Required: row[4] == "true"}
+	if its.To, err = number(row, 1); err != nil {
+		return err
+	}
+	if its.Columns, err = columnNumbers(row[2]); err != nil {
+		return err
+	}
+	if its.Keys, err = columnNumbers(row[3]); err != nil {
+		return err
+	}
+	if t, ok := c.tables[from]; ok && len(its.Columns) == len(its.Keys) {
+		t.References = append(t.References, its)
+	}
+	return nil
+}
+
+// columnNumbers reads numbers of columns between spaces.
+func columnNumbers(text string) (all []int16, err error) {
+	for _, one := range strings.Fields(text) {
+		at, err := strconv.ParseInt(one, 10, 16)
+		if err != nil {
+			return nil, err
+		}
+		all = append(all, int16(at))
+	}
+	return all, nil
 }
 
 func (c *Catalog) takeCall(row []string) error {

@@ -69,8 +69,11 @@ func (f *Form) Bind(with Arguments) (*Condition, error) {
 	if len(b.inferred) > 0 && with.Left > b.left { // another list may decide their types
 		return nil, severalPlaces
 	}
-	made := &Condition{table: f.Table, root: its.clause}
+	made := &Condition{table: f.Table, root: its.clause, checked: f.Checked}
 	made.key = strconv.FormatUint(uint64(f.Table.OID), 10) + " " + its.key
+	if f.Checked {
+		made.key = "checked " + made.key
+	}
 	if len(made.key) > sha256.Size {
 		sum := sha256.Sum256([]byte(made.key))
 		made.key = string(sum[:])

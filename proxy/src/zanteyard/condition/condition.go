@@ -122,11 +122,12 @@ func (r *Row) value(c *column) *reading {
 
 // Condition is a form with its constants. It never changes, and is safe for use by many goroutines.
 type Condition struct {
-	table *catalog.Table
-	root  clause
-	key   string
-	text  string
-	shape string
+	table   *catalog.Table
+	root    clause
+	key     string
+	text    string
+	shape   string
+	checked bool
 }
 
 // Table is the table that the statement names.
@@ -140,6 +141,9 @@ func (c *Condition) String() string { return c.text }
 
 // Shape is the same without its constants: bookings WHERE room = ?.
 func (c *Condition) Shape() string { return c.shape }
+
+// Checked says that it was asked of those rows alone that were inserted while the server checked their foreign keys.
+func (c *Condition) Checked() bool { return c.checked }
 
 // Size is about how many bytes the condition takes.
 func (c *Condition) Size() int { return 256 + 3*len(c.key) + len(c.text) + len(c.shape) }

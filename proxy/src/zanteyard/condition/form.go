@@ -27,6 +27,10 @@ type Form struct {
 	// Partly says why a part of the condition, behind an OR, isn't followed; nil if all is.
 	Partly error
 
+	// Checked says that the form is about those rows alone that were inserted while the server checked their foreign keys
+	// (checked.go).
+	Checked bool
+
 	// Drops says why the statement's result may lack a row that satisfies the condition, or "" if it can't: then whatever
 	// isn't in the result was passed over. What a result's rows are made of, if it has aggregates, groups, HAVING or DISTINCT,
 	// is for the caller to know.

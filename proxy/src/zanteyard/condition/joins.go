@@ -25,6 +25,9 @@ type Side struct {
 	More []*catalog.Column
 	// Decides means that no condition is left between the others, nor one that depends on no table.
 	Decides bool
+	// Checked is what a join that found no row asks of the table, if each of its rows is beside one of every other table, by
+	// foreign keys; nil if that isn't so.
+	Checked *Form
 	// Absent means that it is the table of a subquery that found none, if the statement has a result: of NOT EXISTS, NOT IN.
 	Absent bool
 }
@@ -115,6 +118,9 @@ func Joined(statement map[string]any, text string, c *catalog.Catalog) ([]Side, 
 		if sides[i].Decides = j.decides(one); !limited[one.name] {
 			sides[i].Alone = j.alone(one, statement, text)
 		}
+		if kind == "SelectStmt" && len(limited) == 0 {
+			sides[i].Checked = j.checked(one, statement, text)
+		}
 	}
 	for i, one := range j.scopes {
 		sides[i].More = one.more
@@ -134,6 +140,9 @@ func (j *joins) relied(sides []Side) []Side {
 	for _, one := range sides {
 		if one.Form != nil {
 			one.Form.Relies = all
+		}
+		if one.Checked != nil {
+			one.Checked.Relies = append(one.Checked.Relies, all...)
 		}
 	}
 	return sides

@@ -18,6 +18,8 @@ import (
 type Condition interface {
 	record.Condition
 	Holds(*condition.Row) condition.Truth
+	// Checked reports whether it was asked of those rows alone whose foreign keys were checked (checked.go).
+	Checked() bool
 }
 
 // question is a condition that somebody asked by, with its registers.
@@ -316,6 +318,11 @@ func (c *core) change(q *question, it fresh) {
 	}
 	is, was := q.holds(it.version), q.before(it, c.questions.lastGap(q.relation))
 	switch {
+	case q.its.Checked() && !it.row.checked:
+		if is == condition.Yes && was != condition.Yes {
+			c.counts.leftPassed[notChecked]++
+		}
+		return
 	case is == condition.Unknown:
 		if it.version.values != nil {
 			c.counts.leftPassed[valueUnknown]++

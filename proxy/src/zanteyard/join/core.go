@@ -174,6 +174,7 @@ func (c *core) addVersions(w *writer, it record.Commit) {
 		c.counts.wrote(1)
 		r := c.rows.write(id, one.Inserted, w)
 		v := &version{writer: w, deleted: one.Deleted, left: len(w.writes()) >= mostOfEach, inserted: one.Inserted}
+		c.rows.check(r, &one, it.LSN)
 		c.rows.add(r, v)
 		if !gaps {
 			c.questions.keep(v, one.New, one.Bytes)

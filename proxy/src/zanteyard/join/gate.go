@@ -63,7 +63,9 @@ func (g *gate) verify(place Place, to *core) {
 	if len(place.Changed) > 0 && place.Names > g.names {
 		g.names = place.Names
 	}
-	to.forgetTables(forgotten)
+	if to.forgetTables(forgotten); len(forgotten) > 0 {
+		to.rows.uncheck(place.At)
+	}
 	if place.Remade {
 		to.forgetMeanings()
 	}

@@ -23,6 +23,8 @@ const (
 	askGap           = "a row of which a change may be missing"
 	askBeside        = "beside a row that may have changed since it was read"
 	valueUnknown     = "a change to a value that isn't known: too long, or a number that may be NULL or NaN"
+	askOwnBeside     = "beside rows of a table that the transaction itself wrote to"
+	notChecked       = "a row whose foreign keys may not have been checked, in a join of no rows"
 	tooManyRegisters = "more rows than are kept of one condition"
 	tooManyChanges   = "changes from before their condition was known, more than are looked at"
 	tooManyPassed    = "more rows than are kept of one transaction's conditions"
@@ -178,6 +180,10 @@ func (c *core) resolveAsks(e *entry, to *resolution) bool {
 		it := c.openAsk(e, i)
 		if !c.hadGiven(e, &it) {
 			to.loseAsk(i, askBeside)
+			continue
+		}
+		if q.its.Checked() && c.mayHaveRemoved(e, it.its) {
+			to.loseAsk(i, askOwnBeside)
 			continue
 		}
 		for n := len(q.registers) - 1; n >= 0; n-- { // the last ones may matter most

@@ -22,6 +22,9 @@ const (
 	tooEarly     = "a transaction has ended before it has"
 	cutOff       = "a limit cut nothing off"
 	stillThere   = "a row that was read is still there"
+
+	everChecked    = "each row has what it refers to"
+	nothingRemoved = "nothing that rows refer to was removed"
 )
 
 // spoil makes what is reported of a transaction wrong.
@@ -159,7 +162,7 @@ func TestPassingOverMakesUpNoBrokenSnapshot(t *testing.T) {
 // TestWrongPassing: each joiner that is made wrong on purpose makes a violation up.
 func TestWrongPassing(t *testing.T) {
 	for _, wrong := range []string{oneRow, unknownHolds, tooNew, gapsIgnored, foundNothing, lastSnapshot, inTheLog, tooEarly,
-		cutOff, stillThere} {
+		cutOff, stillThere, everChecked, nothingRemoved} {
 		r := rand.New(rand.NewSource(7))
 		for n := 0; ; n++ {
 			if n == 4**stores {

@@ -19,6 +19,7 @@ type rows struct {
 	lost time.Duration
 	// forgotten are tables whose rows were forgotten, and when.
 	forgotten map[record.Relation]time.Duration
+	unchecked uint64 // up to this place in the log it isn't certain that foreign keys were checked
 }
 
 func newRows(most int) *rows {

@@ -56,6 +56,9 @@ func (s *store) change(t *storeTxn, from time.Time) {
 			}
 		}
 		is := &storeVersion{by: t, row: shown.row, exists: !deletes, values: x}
+		if !s.mayRefer(t, shown, is) {
+			return
+		}
 		write[key], it.own[len(it.own)-1] = is, is.row
 	}
 	for key, is := range write {
@@ -73,7 +76,7 @@ func (s *store) change(t *storeTxn, from time.Time) {
 func (s *store) commitOf(t *storeTxn) record.Commit {
 	s.place += 100
 	it := record.Commit{Number: t.number, LSN: s.place, Start: s.place - 50}
-	for _, key := range s.keys {
+	for _, key := range s.all() {
 		v := t.own[key]
 		if v == nil {
 			continue
@@ -86,6 +89,9 @@ func (s *store) commitOf(t *storeTxn) record.Commit {
 			}
 		}
 		one := record.Write{Relation: 1, Key: record.Key(key.name), Inserted: inserted, Deleted: !v.exists}
+		if key.isParent {
+			one.Relation = 2
+		}
 		if v.exists && !s.leaves(8) {
 			one.New, one.Bytes = s.row(v.values), 50
 		}
@@ -117,9 +123,9 @@ func (s *store) drop(it *record.Commit) {
 	case 0:
 		it.Dropped++
 	case 1:
-		it.Gaps = append(it.Gaps, 1)
+		it.Gaps, it.Keyless = append(it.Gaps, 1), it.Keyless+1
 	default:
-		it.Gaps = append(it.Gaps, record.NoRelation)
+		it.Gaps, it.Keyless = append(it.Gaps, record.NoRelation), it.Keyless+1
 	}
 }
 
@@ -144,7 +150,8 @@ func (s *store) report(t *storeTxn) record.Transaction {
 		if s.leaves(10) {
 			continue
 		}
-		ask := record.Ask{Condition: one.of, Found: one.found, From: one.from, Wrote: one.wrote, Writes: one.writes}
+		ask := record.Ask{Found: one.found, From: one.from, Wrote: one.wrote, Writes: one.writes}
+		ask.Condition, ask.Relies = s.reportedOf(&one)
 		if one.beside != nil && len(one.found) == 0 && s.wrong != stillThere {
 			ask.Given = []record.Read{s.read(*one.beside)}
 		}

@@ -21,6 +21,7 @@ type store struct {
 	wrong string // what the joiner is made to believe, "" for the truth
 
 	keys    []*storeKey
+	parents []*storeKey // to which rows refer by y; nil if nothing is checked (store_parents_test.go)
 	values  map[*condition.Row][2]int
 	next    uint32 // number of a transaction
 	conns   []*storeConn
@@ -39,6 +40,7 @@ type store struct {
 	keeps     bool // what no order explains any more is aborted
 	repeats   bool // all run at repeatable read
 	aborted   int
+	deferred  bool // what rows refer to is checked when transactions end
 }
 
 // storeKey is a key with all versions that its rows ever had, in the order of commits.
@@ -46,6 +48,8 @@ type storeKey struct {
 	name     string
 	versions []storeVersion
 	lock     *storeTxn
+	isParent bool
+	shares   map[*storeTxn]bool // who has locked the parent
 }
 
 type storeVersion struct {
@@ -105,13 +109,21 @@ type fakeCondition struct {
 	c, d    int
 	values  map[*condition.Row][2]int
 	unknown condition.Truth
+	checked bool // it is asked beside the parents to which y refers
 }
 
 func (f *fakeCondition) Table() record.Relation { return 1 }
-func (f *fakeCondition) Key() string            { return fmt.Sprint(f.kind, f.c, f.d) }
+func (f *fakeCondition) Checked() bool          { return f.checked }
 func (f *fakeCondition) String() string         { return f.Key() }
 func (f *fakeCondition) Shape() string          { return f.kind }
 func (f *fakeCondition) Size() int              { return 100 }
+
+func (f *fakeCondition) Key() string {
+	if f.checked {
+		return fmt.Sprint("checked ", f.kind, f.c, f.d)
+	}
+	return fmt.Sprint(f.kind, f.c, f.d)
+}
 
 func (f *fakeCondition) Holds(row *condition.Row) condition.Truth {
 	its, is := f.values[row]
@@ -123,6 +135,14 @@ func (f *fakeCondition) Holds(row *condition.Row) condition.Truth {
 
 func (f *fakeCondition) of(its [2]int) condition.Truth {
 	x, y := f.truth(its[0], its[0] == f.c), f.truth(its[1], its[1] >= f.d)
+	if f.checked && its[1] < 0 {
+		return condition.No
+	}
+	if f.checked && its[1] == 100 {
+		if f.kind == "x" && x == condition.Yes {
+			return f.unknown
+		}
+	}
 	switch {
 	case f.kind == "x":
 		return x
@@ -172,6 +192,9 @@ func newStore(t testing.TB, r *rand.Rand, wrong string, opt Options) *store {
 			key.versions = append(key.versions, first)
 		}
 		s.keys = append(s.keys, key)
+	}
+	if r.Intn(3) == 0 {
+		s.addParents()
 	}
 	for i := 3 + r.Intn(2); i > 0; i-- {
 		s.connectOne()
@@ -272,6 +295,9 @@ func (s *store) statement(t *storeTxn, from time.Time) {
 	}
 	s.later(time.Microsecond)
 	key := s.keys[s.r.Intn(len(s.keys))]
+	if s.parents != nil && s.withParents(t, from) {
+		return
+	}
 	switch s.r.Intn(6) {
 	case 0, 1:
 		s.ask(t, from)
@@ -310,6 +336,9 @@ func (s *store) statement(t *storeTxn, from time.Time) {
 		if is.exists && s.r.Intn(2) == 0 {
 			is.values[0] = last.values[0]
 		}
+	}
+	if !s.mayRefer(t, last, is) {
+		return
 	}
 	if t.number == 0 {
 		s.next++
@@ -372,12 +401,18 @@ func (s *store) unlock(t *storeTxn) {
 	for key := range t.own {
 		key.lock = nil
 	}
+	for _, parent := range s.parents {
+		delete(parent.shares, t)
+	}
 }
 
 // end commits.
 func (s *store) end(c *storeConn) {
 	t := c.open
-	c.open = nil
+	if c.open = nil; !s.keepsReferences(t) {
+		s.unlock(t)
+		return
+	}
 	t.at = len(s.done)
 	s.done = append(s.done, t)
 	if s.keeps && !s.hasOrder() {
@@ -401,8 +436,8 @@ func (s *store) end(c *storeConn) {
 
 // hasOrder reports whether an order explains everything that is committed, with what isn't visible yet.
 func (s *store) hasOrder() bool {
-	was := make([][]storeVersion, len(s.keys))
-	for i, key := range s.keys {
+	was := make([][]storeVersion, len(s.all()))
+	for i, key := range s.all() {
 		was[i] = key.versions
 		for _, t := range append([]*storeTxn{s.done[len(s.done)-1]}, s.hidden...) {
 			if v := t.own[key]; v != nil {
@@ -411,7 +446,7 @@ func (s *store) hasOrder() bool {
 		}
 	}
 	is := hasOrder(s.arcs(true))
-	for i, key := range s.keys {
+	for i, key := range s.all() {
 		key.versions = was[i]
 	}
 	return is

@@ -61,7 +61,7 @@ func (s *store) arcs(conditions bool) [][]int {
 			}
 		}
 	}
-	for _, key := range s.keys {
+	for _, key := range s.all() {
 		for i := 1; i < len(key.versions); i++ {
 			if key.versions[i].row == key.versions[i-1].row {
 				arc(key.versions[i-1].by, key.versions[i].by)
@@ -75,7 +75,7 @@ func (s *store) arcs(conditions bool) [][]int {
 // comes after it.
 func (s *store) passedArcs(t *storeTxn, key *storeKey, ask storeAsk, saw, own int, arc func(from, to *storeTxn)) {
 	for row := 0; row < key.rows(); row++ {
-		if row == own {
+		if row == own || ask.of.checked && !key.isChecked(row) {
 			continue
 		}
 		var before *storeTxn
@@ -137,7 +137,7 @@ func (s *store) explained(byValues bool) bool {
 			for place, v := range last {
 				was[place] = v
 			}
-			for k, key := range s.keys {
+			for k, key := range s.all() {
 				for n := range key.versions {
 					if key.versions[n].by == t {
 						last[[2]int{k, key.versions[n].row}] = n + 1
@@ -167,7 +167,7 @@ func (s *store) mayBeNext(t *storeTxn, used []bool) bool {
 // finds reports whether everything that a transaction read is what it finds behind these versions.
 func (s *store) finds(t *storeTxn, last map[[2]int]int, byValues bool) bool {
 	index := map[*storeKey]int{}
-	for k, key := range s.keys {
+	for k, key := range s.all() {
 		index[key] = k
 		for n := range key.versions {
 			if key.versions[n].by == t && s.front(k, n) != last[[2]int{k, key.versions[n].row}] {
@@ -196,7 +196,7 @@ func (s *store) finds(t *storeTxn, last map[[2]int]int, byValues bool) bool {
 
 // front returns the version of the same row before this one, by index from 1; 0 for none that somebody wrote.
 func (s *store) front(k, n int) int {
-	its := s.keys[k].versions
+	its := s.all()[k].versions
 	if n > 0 && its[n-1].row == its[n].row && its[n-1].by != nil {
 		return n
 	}
@@ -206,6 +206,9 @@ func (s *store) front(k, n int) int {
 // findsNone reports whether who passed over a row finds it passed over behind this version.
 func (s *store) findsNone(k, row, saw int, ask storeAsk, at int, byValues bool) bool {
 	key := s.keys[k]
+	if ask.of.checked && !key.isChecked(row) {
+		return true
+	}
 	if byValues {
 		v := &storeVersion{}
 		if at > 0 {
@@ -231,7 +234,7 @@ func (s *store) findsNone(k, row, saw int, ask storeAsk, at int, byValues bool) 
 
 func (s *store) String() string {
 	text := ""
-	for _, key := range s.keys {
+	for _, key := range s.all() {
 		text += "key " + key.name + ":"
 		for i, v := range key.versions {
 			by := "first"

@@ -182,6 +182,7 @@ type row struct {
 	// born: the audit has seen the row, or will see it, being inserted; a reader of "init" found no row. Otherwise it was
 	// there when it was first heard of, and a reader of "init" found it.
 	born    bool
+	checked bool      // it was inserted while the server checked its foreign keys, as they still are (checked.go)
 	earlier *row      // the row that had the key before this one, as long as it is known
 	trimmed bool      // versions before those in the list were forgotten, or rows before this one
 	many    bool      // it is in the list of rows that have more than one version, or one before them

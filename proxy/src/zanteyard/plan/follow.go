@@ -41,6 +41,7 @@ type side struct {
 	alone          *condition.Form
 	aloneConstants []int
 	decides        bool
+	checked        *side            // what it is asked if the result has no row, by foreign keys; nil if these don't say it
 	relies         []record.Columns // on which it depends what the statement's names mean
 	absent         bool             // a subquery found none, if the statement has a result
 }
@@ -244,9 +245,14 @@ func (m *maker) followJoin(p *Plan, name string, body node) (*follow, string) {
 				its.alone, its.aloneConstants = one.Alone, alone.constants
 			}
 		}
+		if one.Checked != nil && p.showsAll(tables) {
+			if checked, reason := m.side(one.Checked, f.limited || f.skips); reason == "" {
+				checked.source, its.checked = its.source, &checked
+			}
+		}
 		f.sides = append(f.sides, its)
 		f.sorted = f.sorted || its.absent // whatever rows were cut off, a subquery found none beside the others
-		follows = follows || its.form != nil || its.whole && its.source >= 0
+		follows = follows || its.form != nil || its.checked != nil || its.whole && its.source >= 0
 	}
 	switch {
 	case len(f.sides) == 0:
@@ -279,6 +285,16 @@ func (p *Plan) shows(of condition.Side) string {
 		return severalTables
 	}
 	return ""
+}
+
+// showsAll reports whether the result shows of which tables each of its rows is made.
+func (p *Plan) showsAll(tables []condition.Side) bool {
+	for _, one := range tables {
+		if !one.Absent && !one.Nullable && p.sourceOf(one.Name) < 0 {
+			return false
+		}
+	}
+	return p.Kind == Select
 }
 
 // onlySkips reports whether a plan leaves out nothing but joins whose tables aren't used.
@@ -409,7 +425,11 @@ func (p *Plan) AsksJoined(text string, tokens Tokens, with condition.Arguments, 
 		if with.Last = ""; its.source >= 0 {
 			with.Last = found[its.source].Last
 		}
-		switch {
+		switch checked := its.checked != nil && !with.HasRows; {
+		case checked && (its.whole || !p.follow.isBeside(i, given)):
+			by := with
+			by.Cut = false
+			all = append(all, its.checked.asks(text, tokens, at+len(its.constants)+len(its.aloneConstants), by))
 		case its.whole && (p.Kind == Write && hasRows || its.source >= 0 && !found[its.source].Missing):
 		case with.Cut && !its.absent && p.mayCutAny():
 		case its.absent && !with.HasRows:
@@ -479,7 +499,7 @@ func (f *follow) places(text string, tokens []token) []span {
 	var all []span
 	for i := range f.sides {
 		its := &f.sides[i]
-		for _, at := range append(its.constants[:len(its.constants):len(its.constants)], its.aloneConstants...) {
+		for _, at := range its.allConstants() {
 			its := span{tokens[at].start, tokens[at].last}
 			if text[tokens[at].start] == '-' && at+1 < len(tokens) {
 				its.to = tokens[at+1].last
@@ -505,6 +525,9 @@ func (p *Plan) HasAsked() {
 	}
 	for i := range p.follow.sides {
 		its := p.follow.sides[i].form
+		if checked := p.follow.sides[i].checked; its == nil && checked != nil {
+			its = checked.form
+		}
 		if its == nil {
 			continue
 		}

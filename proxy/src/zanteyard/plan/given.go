@@ -8,8 +8,23 @@ import (
 // Before finds a row by its key among those that earlier statements of the transaction have read.
 type Before func(relation record.Relation, identity record.Identity, key record.Key) (record.Read, bool)
 
-// count is how many constants a side has.
-func (s *side) count() int { return len(s.constants) + len(s.aloneConstants) }
+// allConstants are the tokens of all constants of a side.
+func (s *side) allConstants() []int {
+	all := append(s.constants[:len(s.constants):len(s.constants)], s.aloneConstants...)
+	if s.checked != nil {
+		all = append(all, s.checked.constants...)
+	}
+	return all
+}
+
+// count is how many there are.
+func (s *side) count() int {
+	n := len(s.constants) + len(s.aloneConstants)
+	if s.checked != nil {
+		n += len(s.checked.constants)
+	}
+	return n
+}
 
 // given returns, for each side of a join that found no row, the row that it asks for by its whole key; nil for one that
 // nobody has read.
@@ -50,6 +65,12 @@ func (f *follow) beside(of int, given []*record.Read) (keys map[string][]record.
 		}
 	}
 	return keys, rows
+}
+
+// isBeside reports whether all rows are known beside which a side is asked.
+func (f *follow) isBeside(of int, given []*record.Read) bool {
+	_, rows := f.beside(of, given)
+	return len(rows) > 0
 }
 
 // texts returns constants, from one of those that are followed on.

@@ -46,7 +46,11 @@ func (m *maker) typesLabels(p *Plan) {
 
 func (f *follow) labels() (all []condition.Label) {
 	for i := range f.sides {
-		for _, form := range []*condition.Form{f.sides[i].form, f.sides[i].alone} {
+		forms := []*condition.Form{f.sides[i].form, f.sides[i].alone}
+		if f.sides[i].checked != nil {
+			forms = append(forms, f.sides[i].checked.form)
+		}
+		for _, form := range forms {
 			if form != nil {
 				all = append(all, form.Labels...)
 			}

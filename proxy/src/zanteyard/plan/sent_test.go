@@ -419,7 +419,7 @@ func kindOf(t *testing.T, table, column string, kind uint32) *catalog.Catalog {
 			return [][]string{{"20000", "public", table, "r", "p", "heap", "d", "false", "false", "20000", "0", "20002"}}, nil
 		case strings.Contains(its, "i.indnkeyatts"):
 			return [][]string{{"20000", "true", "false", "1", "1", "btree", "20001 1", "true", "true"}}, nil
-		case strings.Contains(its, "a.attnum"):
+		case strings.Contains(its, "a.attnum::"):
 			return [][]string{{"20000", "1", column, fmt.Sprint(kind)}, {"20000", "2", "v", "23"}}, nil
 		case strings.Contains(its, "m.attrelid"):
 			return [][]string{{"20000", "1", fmt.Sprint(kind), "d", "false", "false", "0"}, {"20000", "2", "23", "", "false", "false", "0"}}, nil

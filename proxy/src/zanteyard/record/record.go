@@ -187,6 +187,7 @@ type Write struct {
 	Key      Key
 	Deleted  bool // the row is absent afterwards
 	Inserted bool // it was absent when the transaction first wrote it
+	Moved    bool // another row's key was changed into this one
 	New, Old Row  // the row afterwards and before, as far as the log has them
 	Bytes    int  // about how many bytes New takes
 }

@@ -12,6 +12,7 @@ import (
 	"github.com/jackc/pgproto3/v2"
 
 	"zanteyard/catalog"
+	"zanteyard/condition"
 	"zanteyard/definitions"
 	"zanteyard/record"
 )
@@ -51,6 +52,9 @@ func shownAsk(one record.Ask) string {
 	text := one.Condition.String() + ": " + strings.Join(found, ",")
 	if one.Wrote {
 		text += " wrote"
+	}
+	if its := one.Condition.(*condition.Condition); its.Checked() {
+		text += fmt.Sprint(" checked, relies on ", len(one.Relies))
 	}
 	for _, its := range one.Given {
 		text += " beside " + string(its.Key)
@@ -170,6 +174,25 @@ func TestAsks(t *testing.T) {
 			want: "t WHERE v < 0: ; not: a join of no rows, beside which others could stand"},
 		{name: "a join of no rows", texts: []string{"SELECT t.v, u.v FROM t JOIN u ON u.a = t.id WHERE t.v < 0"},
 			want: "not: a join of no rows, beside which others could stand"},
+		{name: "a join of no rows by a foreign key", texts: []string{"SELECT child.id, v FROM child JOIN t ON t.id = child.parent WHERE child.id > 90"},
+			want: "child WHERE id > 90 AND parent IS NOT NULL:  checked, relies on 1"},
+		{name: "one by a whole key", texts: []string{"SELECT child.id, v FROM child JOIN t ON t.id = child.parent WHERE child.id = 90"},
+			want: "child WHERE id = 90 AND parent IS NOT NULL:  checked, relies on 1"},
+		{name: "one that returns rows", texts: []string{"SELECT child.id, v FROM child JOIN t ON t.id = child.parent WHERE child.id > 3"},
+			want: "child WHERE id > 3 AND parent IN (4, 5): 4,5"},
+		{name: "one with a condition on what is referred to", texts: []string{"SELECT child.id, v FROM child JOIN t ON t.id = child.parent AND t.v > 90 WHERE child.id > 90"},
+			want: "not: " + besideNone},
+		{name: "one beside a row, which has been read", texts: []string{"BEGIN", "SELECT v FROM t WHERE id = 1",
+			"SELECT c.id, t.v FROM child c JOIN t ON t.id = c.parent AND t.id = 1 WHERE c.id > 90", "COMMIT"}, want: "child WHERE id > 90 AND parent IN (1):  beside 1"},
+		{name: "one after a write", texts: []string{"BEGIN", "UPDATE t SET w = 'x' WHERE id = 20",
+			"SELECT child.id, v FROM child JOIN t ON t.id = child.parent WHERE child.id > 90", "COMMIT"},
+			want: "child WHERE id > 90 AND parent IS NOT NULL:  wrote checked, relies on 1"},
+		{name: "one with parameters", parsed: []pgproto3.FrontendMessage{
+			&pgproto3.Parse{Query: "SELECT t.v FROM child c JOIN t ON t.id = c.parent WHERE c.id > $1 AND c.id < $2 AND c.parent <> 7 LIMIT 5"},
+			&pgproto3.Bind{Parameters: [][]byte{{0, 0, 0, 90}, {0, 0, 0, 99}}, ParameterFormatCodes: []int16{1}}, &pgproto3.Execute{}, &pgproto3.Sync{}},
+			want: "child WHERE id > 90 AND id < 99 AND parent <> 7 AND parent IS NOT NULL:  checked, relies on 1"},
+		{name: "an aggregate of one", texts: []string{"SELECT count(*) FROM child JOIN t ON t.id = child.parent WHERE child.id > 90"},
+			want: "not: an aggregate of no rows, which doesn't show its table"},
 		{name: "an aggregate of a join", texts: []string{"SELECT count(*), sum(u.v) FROM t JOIN u ON u.a = t.id WHERE t.v < 30 AND u.v > 2"},
 			want: "u WHERE v > 2 AND a IN (1, 2): 1/b5,1/b9,2/b10,2/b6"},
 		{name: "one of no rows in a join", texts: []string{"SELECT count(*), sum(u.v) FROM t JOIN u ON u.a = t.id WHERE t.v < 0 AND u.v > 2"},

@@ -80,7 +80,7 @@ func (d *testDecoding) change(text []byte) error {
 	}
 	if hasKey {
 		moved := hasOld && old != key
-		d.open.write(t.Root, key, string(action) == "INSERT" || moved, false, values{})
+		d.open.write(t.Root, key, string(action) == "INSERT" || moved, false, values{moved: moved})
 	}
 	return nil
 }

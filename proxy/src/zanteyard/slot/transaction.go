@@ -39,12 +39,13 @@ func (t *transaction) begin(number uint32, start, names uint64) {
 type values struct {
 	now, was *condition.Row
 	bytes    int
+	moved    bool // the key was another one's
 }
 
 func (t *transaction) write(relation record.Relation, key record.Key, inserted, deleted bool, its values) {
 	if i, found := t.find(relation, key); found {
 		one := &t.writes[i]
-		one.Deleted, one.New, one.Bytes = deleted, asRow(its.now), its.bytes
+		one.Deleted, one.New, one.Bytes, one.Moved = deleted, asRow(its.now), its.bytes, one.Moved || its.moved
 		return
 	}
 	if len(t.writes) >= mostWrites {
@@ -54,7 +55,7 @@ func (t *transaction) write(relation record.Relation, key record.Key, inserted, 
 	if t.at != nil {
 		t.at[place{relation, key}] = len(t.writes)
 	}
-	t.writes = append(t.writes, record.Write{Relation: relation, Key: key, Deleted: deleted, Inserted: inserted,
+	t.writes = append(t.writes, record.Write{Relation: relation, Key: key, Deleted: deleted, Inserted: inserted, Moved: its.moved,
 		New: asRow(its.now), Old: asRow(its.was), Bytes: its.bytes})
 }
 

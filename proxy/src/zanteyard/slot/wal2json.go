@@ -253,7 +253,7 @@ func (w *wal2json) change(m *message) {
 	}
 	if m.action != 'D' {
 		if was != now {
-			its.was = nil // of another key
+			its.was, its.moved = nil, m.action == 'U' // of another key
 		}
 		w.open.write(t.Root, now, m.action == 'I' || was != now, false, its)
 	}
