@@ -128,8 +128,7 @@ def run(asked: argparse.Namespace) -> int:
             asked.progress.doing = doing
 
     with no_collections():
-        with open(asked.file, "rb") as file:
-            whole = unpacked(file.read(), os.path.basename(asked.file))
+        whole = contents_of(asked.file)
         with plainly(asked, asked.form, whole, asked.strict) as written:
             if written is not None:
                 tell(f"writing {asked.script}")
@@ -208,6 +207,12 @@ def import_text(
     recording = chosen.read(text, **more)
     tell(f"looking up what {counted(len(recording.attempts), 'attempt')} read")
     return script_of(recording, first, asks_time, EVERY)
+
+
+def contents_of(path: str) -> bytes:
+    """What a file has, without gzip. Raises ImportRefusedError and OSError."""
+    with open(path, "rb") as file:
+        return unpacked(file.read(), os.path.basename(path))
 
 
 def unpacked(whole: bytes, name: str) -> bytes:
