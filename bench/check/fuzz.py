@@ -7,8 +7,8 @@ the program, or with COBRA_AUDIT naming another one:
     python3 bench/check/fuzz.py [--lines N] [--seed S] [--minutes M] [--processes N] [--only WORD]
                           [--keep FILE] [PROGRAM]
 
-There are four generators (`fuzz_lines.py`): mutated bytes, lines mutated by their grammar, whole
-scripts, and answers that are handed in. Each reply is compared with that of the plain model
+There are five generators (`fuzz_lines.py`, `fuzz_timed.py`): mutated bytes, lines mutated by their
+grammar, whole scripts, answers that are handed in, and scripts that ask for strict serializability. Each reply is compared with that of the plain model
 (`judge.py`), and each program has to end with status 0 and nothing else. It prints a table of what
 was tried by kind of line and by reply, also if SIGINT or SIGTERM stops it. At the first difference
 it stops, reduces the script as long as a difference stays, writes it to FILE
@@ -32,6 +32,7 @@ from dataclasses import dataclass, replace
 from multiprocessing.connection import wait
 
 from fuzz_lines import Answers, Bytes, Grammar, Longest, Scripts
+from fuzz_timed import Timed
 sys.path[:0] = [os.path.join(os.path.dirname(os.path.abspath(__file__)), "../model")]
 from judge import Model, first_difference
 from plain_verdicts import Wrong
@@ -39,7 +40,7 @@ from plain_verdicts import Wrong
 PIPE = 1 << 20  # bytes that fit into a pipe before its writer has to wait
 SECONDS = 600.0  # seconds for the replies to a chunk, on a busy machine
 GENERATORS = {"bytes": (Bytes, 30), "grammar": (Grammar, 30), "scripts": (Scripts, 25),
-              "answers": (Answers, 15)}
+              "answers": (Answers, 15), "timed": (Timed, 15)}
 FORKS = multiprocessing.get_context("fork")
 EACH = 600  # lines of a script, about
 OFTEN = 5.0  # seconds between two progress reports

@@ -42,7 +42,7 @@ def path_of():
 
 def is_checked(line):
     """Whether the program checks scripts with this line."""
-    return not line.startswith(b'["resume"') and not line.endswith(b',"snapshot"]')
+    return not line.startswith(b'["resume"') and not line.endswith((b',"snapshot"]', b',"strict"]'))
 
 
 def worked():

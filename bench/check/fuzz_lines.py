@@ -35,7 +35,7 @@ NO_TEXT = (b"\xff", b"\xfe\xff", b"\xc3", b"\xc0\x80", b"\xed\xa0\x80", b"\xf4\x
            b"\x1b", b"\x7f", b"\xef\xbb", b"\xf0\x9f\x98")
 WORDS = ("open", "offer", "join", "close", "begin", "finish", "round", "search", "collect",
          "wait", "skip", "truncate", "rebuild", "show", "resume", "marks", "last", "resumed",
-         "save", "remain", "answer", "order", "refuted", ABORTED, "snapshot", "commit")
+         "save", "remain", "answer", "order", "refuted", ABORTED, "snapshot", "strict", "commit")
 BUDGETS = (1, 1, 1, 2, 2, 3, 4, 5, 7, 8, 15, 16, 31, 32, 33, 64, 64, 128, 256)
 
 
@@ -45,8 +45,10 @@ class Raw(str):
 
 # In place of a script's version: one of version 2, or of version 3, that asks for snapshot isolation.
 SNAPSHOT, LARGE_SNAPSHOT = "snapshot", "snapshot by version 3"
+STRICT, LARGE_STRICT = "strict", "strict by version 3"  # the same for strict serializability
 ISOLATED_AT = {2: SNAPSHOT, 3: LARGE_SNAPSHOT}
-MORE = {1: [], 2: [2], 3: [3], SNAPSHOT: [2, SNAPSHOT], LARGE_SNAPSHOT: [3, SNAPSHOT]}  # in openings
+MORE = {1: [], 2: [2], 3: [3], SNAPSHOT: [2, SNAPSHOT], LARGE_SNAPSHOT: [3, SNAPSHOT],
+        STRICT: [2, STRICT], LARGE_STRICT: [3, STRICT]}  # in openings
 VERSIONS = (2, 2, 2, 3, 3, 1, 0, 4, 256, WHOLE, "2", "", None, True, [], [2], [3], Raw("2.0"),
             Raw("-2"), Raw("02"), Raw("2e0"), Raw("3.0"), Raw("03"), Raw('"\\u0032"'))
 OUTCOMES = (*[ABORTED] * 4, "Aborted", "abort", "aborted ", "committed", "", None, False, 0, 2, [],
@@ -79,6 +81,12 @@ def opening(word, sessions, limit, version):
     return [word, sessions, limit, *MORE[version]]
 
 
+def told_txns(line):
+    """The transactions of what looks like an offer or a join, perhaps with times behind them."""
+    txns = line[3] if len(line) == 6 else line[-1]
+    return txns if type(txns) is list else []
+
+
 def versioned(dice, line):
     """The line with an addition to what an opening, or a transaction, has in version 1: a later
     version's or not, twice, or removed."""
@@ -86,11 +94,11 @@ def versioned(dice, line):
     if line[0] in ("open", "resume"):
         line = line[:3] if dice.random() < 0.8 else line
         if dice.random() < 0.2:
-            words = (SNAPSHOT, SNAPSHOT, SNAPSHOT[:-1], "serializable")
+            words = (SNAPSHOT, SNAPSHOT, STRICT, SNAPSHOT[:-1], "serializable")
             line = [*line[:3], dice.choice((2, 3, 3, 4)), dice.choice(words)]
         holder, more = line, dice.choice(VERSIONS)
-    elif line[0] in ("offer", "join") and type(line[-1]) is list and line[-1]:
-        holder, more = dice.choice(line[-1]), dice.choice(OUTCOMES)
+    elif line[0] in ("offer", "join") and told_txns(line):
+        holder, more = dice.choice(told_txns(line)), dice.choice(OUTCOMES)
     else:
         return [*line, dice.choice((2, ABORTED))]
     if type(holder) is not list:
@@ -537,13 +545,14 @@ class Mutated:
 
     def __init__(self, dice):
         self.dice = dice
-        self.version = dice.choice((1, 2, 3, SNAPSHOT, LARGE_SNAPSHOT))
+        self.version = dice.choice((1, 2, 3, SNAPSHOT, LARGE_SNAPSHOT, STRICT, LARGE_STRICT))
         self.sessions = dice.choice((1, 2, 3, many(dice, self.version)))
         self.limit = dice.choice((1, 5, 10, 16))
         self.store = Store(dice, self.sessions)
         self.store.fit(self.version)
         self.store.aborts = 0.0 if self.version == 1 else 0.3
         self.count = dice.choice((16, 100))
+        self.now = 1  # of the clock of what is offered with times
 
     def is_over(self, _):
         return False
@@ -563,7 +572,8 @@ class Mutated:
             *txns, last = store.waiting[session][:4]
             if model.version == 1 and dice.random() < 0.3:  # which only version 2 would accept
                 last = [*last, ABORTED]
-            return ["offer", session, store.first[session], [*txns, last]]
+            line = ["offer", session, store.first[session], [*txns, last]]
+            return self.timed(line) if dice.random() < (0.5 if model.timed else 0.02) else line
         if turn < 0.8:
             return [dice.choice(("round", "round", "finish", "search")), *effort(dice)]
         if turn < 0.81:
@@ -577,6 +587,13 @@ class Mutated:
         if turn < 0.88:
             return dice.choice((["collect"], ["collect", "wait"], ["skip"]))
         return [dice.choice(("show", "show", "show", "begin", "truncate", "rebuild"))]
+
+    def timed(self, line):
+        """The offer with times: the next ones of a clock, known or not."""
+        count, dice = len(line[3]), self.dice
+        began = [self.now + 2 * place if dice.random() < 0.9 else 0 for place in range(count)]
+        self.now += 2 * count
+        return [*line, began, [time + 1 if time else WHOLE - 1 for time in began]]
 
     def openings_of_none(self):
         """Openings of no version, which have to be given before a valid one."""

@@ -18,6 +18,8 @@ from dataclasses import dataclass, replace
 from plain_proofs import check_order, check_tree
 from plain_snapshots import (STARS, check_events, half_report, has_events, is_proper, split,
                              split_command, told_reply, whole_of)
+from plain_strict import (are_possible, check_real_time, has_strict_order, plain_parts,
+                          rewritten_parts, span_of)
 from plain_verdicts import INIT, Parts, Relation, Wrong, cut_of, has_order, is_fence, may_be_spent
 
 LONGEST = 8388608  # bytes of a line, without its LF
@@ -75,7 +77,16 @@ def is_txn(it):
 
 def tells_aborted(command):
     """Whether the command has an aborted transaction, which version 1 doesn't know."""
-    return command[0] in ("offer", "join") and any(map(is_aborted, command[-1]))
+    return command[0] in ("offer", "join") and any(map(is_aborted, txns_in(command)))
+
+
+def is_timed(command):
+    return command[0] == "offer" and len(command) == 6
+
+
+def txns_in(command):
+    """The transactions of an offer or a join."""
+    return command[3] if is_timed(command) else command[-1]
 
 
 def is_offer(parts):
@@ -84,10 +95,17 @@ def is_offer(parts):
             and all(map(is_txn, txns)))
 
 
-def is_opening(parts):
+def is_timed_offer(parts):
+    """What is offered, when each began and when each ended. That they are as many is judged by
+    `Model`."""
+    return is_offer(parts[:3]) and all(type(times) is list and are_wholes(times)
+                                       for times in parts[3:])
+
+
+def is_opening(parts, promises=("snapshot", "strict")):
     """Two numbers, followed by the version if that is 2 or 3, and then perhaps by a promise;
     version 1 isn't stated."""
-    is_versioned = parts[2:3] in ([2], [3]) and parts[3:] in ([], ["snapshot"])
+    is_versioned = parts[2:3] in ([2], [3]) and (not parts[3:] or parts[3] in promises)
     return are_wholes(parts[:3]) and (not parts[2:] or is_versioned)
 
 
@@ -182,6 +200,7 @@ FORMS = {
     ("open", 4): is_opening,
     ("open", 5): is_opening,
     ("offer", 4): is_offer,
+    ("offer", 6): is_timed_offer,
     ("join", 3): lambda parts: is_offer([parts[0], 0, parts[1]]),
     ("join", 4): is_offer,
     ("close", 2): lambda parts: is_whole(parts[0], 256),
@@ -203,7 +222,7 @@ FORMS = {
     ("save", 4): is_save,
     ("resume", 3): is_opening,
     ("resume", 4): is_opening,
-    ("resume", 5): is_opening,
+    ("resume", 5): lambda parts: is_opening(parts, ("snapshot",)),
     ("marks", 3): is_marks,
     ("marks", 4): is_marks,
     ("last", 2): is_last,
@@ -416,7 +435,8 @@ class Model:
 
     If the script asks for snapshot isolation, its parts, cuts and searches are of halves
     (`plain_snapshots.py`). Its reports are judged by the definition, too, which is tried over the
-    whole history as it was offered."""
+    whole history as it was offered. If it asks for strict serializability, searches are of the
+    rewritten history, and orders and small verdicts are judged by real time as well."""
 
     judges_search = True
 
@@ -425,6 +445,7 @@ class Model:
         self.search = None  # the arguments of the open round's running search
         self.version = 1  # the version of the script's opening, for what may be offered
         self.is_isolated = False  # whether the script asks for snapshot isolation
+        self.timed = None  # if it asks for strict serializability, what was offered, with its times
         self.whole = self.asked = None  # if it does, what was offered, if known; of the open round
         self.rounds = 0
         self.told = {}  # for what remains now: by budget and depth, the report without its number
@@ -446,12 +467,16 @@ class Model:
         effect, if the reply is a report."""
         if command is None:
             return REFUSALS[1]
+        if is_timed(command) and self.timed is None:
+            return REFUSALS[1]
         if self.handed and command[0] not in BEGINNING:
             return self.hand_over(command)
         if (self.parts is None) != (command[0] in BEGINNING) or command[0] in HANDED:
             return REFUSALS[1]
         if self.version == 1 and tells_aborted(command):
             return REFUSALS[1]
+        if self.timed is not None:
+            return self.strict(command)
         if self.is_isolated:
             return self.isolated(command)
         return self.ordered(command)
@@ -463,6 +488,30 @@ class Model:
         if command[0] == "search":
             return self.begin_search(*command[1:])
         return getattr(self, command[0])(*command[1:])
+
+    def strict(self, command):
+        """The same in a script that asks for strict serializability."""
+        if command[0] == "round":
+            return None
+        if command[0] != "offer":
+            return REFUSALS[1]
+        session, first, told, *times = command[1:]
+        if any(len(its) != len(told) for its in times):
+            return REFUSALS[1]
+        txns, count = list(map(txn_of, told)), sum(map(len, self.timed))
+        fault = fragment_fault(session, first, txns, bounds_of(self.version, False))
+        fault = fault or place_fault(plain_parts(self.timed), session, first)
+        if not fault and count + len(txns) > self.limit:
+            fault = 8
+        if fault:
+            return REFUSALS[fault]
+        spans = map(span_of, *times) if times else [(None, None)] * len(told)
+        given = [(*effect_of(txn), *span) for txn, span in zip(told, spans)]
+        if not are_possible(len(self.timed), self.timed[session], given):
+            return REFUSALS[3]
+        self.timed[session] += given
+        self.parts, self.told = plain_parts(self.timed), {}
+        return OK
 
     def isolated(self, command):
         """The same in a script that asks for snapshot isolation."""
@@ -506,9 +555,11 @@ class Model:
         refused = self.refused_opening(sessions, limit, version, promise)
         if refused:
             return refused
-        self.limit, self.version, self.handed = limit * (2 if promise else 1), version, None
+        is_isolated = promise == "snapshot"
+        self.limit, self.version, self.handed = limit * (2 if is_isolated else 1), version, None
         self.parts = Parts([0] * sessions, [[] for _ in range(sessions)], [False] * sessions)
-        self.begins(promise is not None)
+        self.timed = [[] for _ in range(sessions)] if promise == "strict" else None
+        self.begins(is_isolated)
         return OK
 
     def begins(self, is_isolated):
@@ -524,7 +575,7 @@ class Model:
         return OK
 
     def refused_opening(self, sessions, limit, version, promise):
-        bounds = bounds_of(version, promise is not None)
+        bounds = bounds_of(version, promise == "snapshot")
         if not 1 <= sessions <= bounds.sessions:
             return REFUSALS[2]
         return None if 1 <= limit <= bounds.limit else REFUSALS[9]
@@ -699,6 +750,8 @@ class Model:
         budget, depth = self.search[:2] if command[0] == "collect" else command[1:3]
         whole = self.asked if self.snapshot else self.whole
         parts, self.snapshot = self.snapshot or self.parts, None
+        if self.timed is not None:
+            parts = rewritten_parts(self.timed)
         self.search = None
         self.rounds += 1
         report = told = report_of(reply)
@@ -714,11 +767,16 @@ class Model:
             self.shown["refuted"] = told[4]
         else:
             check_order(parts, report[4])
+            if self.timed is not None:
+                check_order(self.parts, report[4])
+                check_real_time(self.timed, report[4])
             self.shown["order"] = told[4]
-            self.held = cut_of(parts, relation)
+            self.held = cut_of(parts, relation) if self.timed is None else None
             if self.is_isolated and is_proper(parts):
                 check_events(whole_of(parts), told[4])
         check_by_trial(parts, report[2])
+        if self.timed is not None and sum(map(len, self.timed)) <= 12:
+            check_kind(report[2], has_strict_order(self.timed, FARTHEST))
         if whole:
             check_kind(report[2], has_events(whole, FARTHEST))
         if command[0] == "round" and self.judges_search:  # the same, whatever the workers

@@ -44,6 +44,8 @@ def history_of(text):
     lines = [json.loads(line) for line in text.splitlines() if line.startswith("[")]
     if not lines or lines[0][0] != "open" or {it[0] for it in lines} & {"truncate", "resume"}:
         return None
+    if "strict" in lines[0]:  # times are asked about elsewhere
+        return None
     history = [[] for _ in range(lines[0][1])]
     for kind, *rest in lines:
         if kind == "offer":

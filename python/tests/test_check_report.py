@@ -35,8 +35,13 @@ def asks_for_isolation(path):
     return lines_of(path)[0].endswith(b',"snapshot"]')
 
 
+def asks_for_strictness(path):
+    """Whether a line of it opens a script that asks for strict serializability, which isn't checked yet."""
+    return any(line.endswith(b',"strict"]') for line in lines_of(path))
+
+
 ALL = sorted(glob.glob(os.path.join(DATA, "*.jsonl")))
-WHOLE = [path for path in ALL if not resumes(path)]
+WHOLE = [path for path in ALL if not resumes(path) and not asks_for_strictness(path)]
 SCRIPTS = [path for path in WHOLE if not asks_for_isolation(path)]
 
 
@@ -103,6 +108,16 @@ class StoredReplies(unittest.TestCase):
         self.assertIn(b"reply 2 wrong: its script resumes another, and what had gone before isn't",
                       ended.stdout)
         self.assertTrue(plainly_right(plain_checker(), script, replies))
+
+    def test_a_script_that_asks_for_strict_serializability_is_refused(self):
+        for path in filter(asks_for_strictness, ALL):
+            with self.subTest(os.path.basename(path)):
+                script, replies = lines_of(path), lines_of(path[: -len("jsonl")] + "replies")
+                ended = checked(script, replies)
+                at = next(at for at, turn in enumerate(zip(script, replies), 1)
+                          if turn[0].startswith(b'["open",') and b"BadLine" not in turn[1])
+                self.assertEqual(ended.returncode, 3)
+                self.assertIn(b"reply %d wrong: its script asks for strict serializability" % at, ended.stdout)
 
     def test_a_cut_from_before_a_join_is_wrong(self):
         name = os.path.join(DATA, "join_drops_the_cut.")

@@ -32,8 +32,11 @@ WRONG = (
     ('["offer",0,0,[[[],5]]]', 19, "the keys that it writes (a list)", "5"),
     ('["offer",0,0,[[[],[5],"abort"]]]', 23, '"aborted"', '"abort"'),
     ('["offer","0",0,[]]', 10, "a session (a whole number, 0 to 255)", '"0"'),
-    ('["offer",0,0,[],7]', 17, '3 parts in "offer" after its name', "4"),
-    ('["open",2,8,2,"snap"]', 15, '"snapshot"', '"snap"'),
+    ('["offer",0,0,[],7]', 17, "when each began (a list)", "7"),
+    ('["offer",0,0,[],[1]]', 20, '3 or 5 parts in "offer" after its name', "4"),
+    ('["offer",0,0,[],[1],[1.0]]', 22, "a time (a whole number)", "1.0"),
+    ('["open",2,8,2,"snap"]', 15, '"snapshot" or "strict"', '"snap"'),
+    ('["resume",2,8,2,"strict"]', 17, '"snapshot"', '"strict"'),
     ('["open",2,8,4]', 13, "2 or 3, the version of the script", "4"),
     ('["open",2,8,4,"snapshot"]', 13, "2 or 3, the version of the script", "4"),
     ('["close",256]', 10, "a session (a whole number, 0 to 255)", "256"),
@@ -68,7 +71,8 @@ class Forms(unittest.TestCase):
             '["open",2,8,2,"snapshot"]', '["collect","wait"]', '["last",[[0,0,1]]]',
             '["open",256,1048576,3]', '["resume",2,8,3]', '["open",256,524288,3,"snapshot"]',
             '["marks",[2,0],[false,true]]', '["rebuild"]', '["resume",2,8,2,"snapshot"]',
-            '["marks",[2,0],[false,true],[true,false]]',
+            '["marks",[2,0],[false,true],[true,false]]', '["open",2,8,3,"strict"]',
+            '["offer",0,0,[[[],[]]],[0],[18446744073709551615]]',
         ):
             with self.subTest(line=line):
                 self.assertEqual(mistake_of(line.encode()), "")

@@ -22,7 +22,24 @@ fn numbers_of(command: &Command) -> (&'static str, [u64; 3]) {
             "open isolated",
             [*sessions, *limit, version_number(*version)],
         ),
+        Command::StartStrict {
+            sessions,
+            limit,
+            version,
+        } => ("open strict", [*sessions, *limit, version_number(*version)]),
         Command::Offer(logged) => ("offer", fragment_numbers(logged)),
+        Command::OfferTimed {
+            logged,
+            began,
+            ended,
+        } => {
+            let numbers = [
+                logged.fragment.txns.len() as u64,
+                times_sum(began.as_slice()),
+                times_sum(ended.as_slice()),
+            ];
+            ("offer timed", numbers)
+        }
         Command::Join(logged) => ("join", fragment_numbers(logged)),
         Command::Close(session) => ("close", [u64::from(*session), 0, 0]),
         Command::Begin => ("begin", [0, 0, 0]),
@@ -90,6 +107,15 @@ fn numbers_of(command: &Command) -> (&'static str, [u64; 3]) {
     }
 }
 
+// Times by their places, so that their order tells.
+fn times_sum(times: &[u64]) -> u64 {
+    let mut sum = 0u64;
+    for time in times {
+        sum = sum.wrapping_mul(10).wrapping_add(*time);
+    }
+    sum
+}
+
 fn opening_number(opening: Opening) -> u64 {
     match opening {
         Opening::Ordered(version) => version_number(version),
@@ -135,7 +161,32 @@ struct Row {
     numbers: [u64; 3],
 }
 
-static COMMANDS: [Row; 39] = [
+static COMMANDS: [Row; 44] = [
+    Row {
+        line: "[\"open\",2,16,2,\"\\u0073trict\"]",
+        name: "open strict",
+        numbers: [2, 16, 2],
+    },
+    Row {
+        line: "[\"open\",256,1048576,3,\"strict\"]",
+        name: "open strict",
+        numbers: [256, 1048576, 3],
+    },
+    Row {
+        line: "[\"offer\",0,0,[],[],[]]",
+        name: "offer timed",
+        numbers: [0, 0, 0],
+    },
+    Row {
+        line: "[\"offer\",0,0,[[[],[5]],[[],[6]]],[1,2],[3,4]]",
+        name: "offer timed",
+        numbers: [2, 12, 34],
+    },
+    Row {
+        line: "[\"offer\",0,0,[[[],[5]]], [ 1 , 2 , 3 ] ,[18446744073709551615]]",
+        name: "offer timed",
+        numbers: [1, 123, u64::MAX],
+    },
     Row {
         line: "[\"search\",4294967296,6,16]",
         name: "search",
@@ -389,7 +440,7 @@ fn aborted_transactions(rt: HostRuntime) -> Result<(), Fail> {
 }
 
 // Texts that are no JSON, or no array of a known word and its parts; other parts; offers and joins with other parts.
-static BAD_LINES: [&str; 99] = [
+static BAD_LINES: [&str; 116] = [
     "",
     " ",
     "null",
@@ -429,6 +480,23 @@ static BAD_LINES: [&str; 99] = [
     "[\"open\",2,16,3,\"snapshots\"]",
     "[\"open\",2,16,3,\"snapshot\",3]",
     "[\"open\",2,16,3,3]",
+    "[\"open\",2,16,\"strict\"]",
+    "[\"open\",2,16,1,\"strict\"]",
+    "[\"open\",2,16,4,\"strict\"]",
+    "[\"open\",2,16,2,\"Strict\"]",
+    "[\"open\",2,16,2,\"strict\",2]",
+    "[\"open\",2,16,2,\"snapshot\",\"strict\"]",
+    "[\"resume\",2,16,2,\"strict\"]",
+    "[\"offer\",0,0,[],[]]",
+    "[\"offer\",0,0,[],[],[],[]]",
+    "[\"offer\",0,0,[],[],0]",
+    "[\"offer\",0,0,[],[null],[0]]",
+    "[\"offer\",0,0,[],[-1],[0]]",
+    "[\"offer\",0,0,[],[1.0],[0]]",
+    "[\"offer\",0,0,[],[18446744073709551616],[0]]",
+    "[\"offer\",0,0,[],[[0]],[0]]",
+    "[\"offer\",0,[],[],[]]",
+    "[\"join\",0,0,[],[],[]]",
     "[\"open\",2,16,\"2\"]",
     "[\"open\",2,16,2.0]",
     "[\"open\",2,16,null]",

@@ -1,6 +1,6 @@
 -- A command of which only the first transactions are held is answered as the whole one is, where more than an offer may have are held
 -- and no parts are handed over.
-use Rattle.std.proofs.Common.{◌≡◌, ◌≢◌, ℕ, ◌<◌, ◌≤◌, ◌⊎◌, Bool, not, Some, List, length, take, refl, sym, ap, subst, ◌∙◌, inl, inr, ⊎_elim, arith}
+use Rattle.std.proofs.Common.{◌≡◌, ◌≢◌, ℕ, ◌<◌, ◌≤◌, ◌⊎◌, Bool, not, Some, List, [], length, take, refl, sym, ap, subst, ◌∙◌, inl, inr, ⊎_elim, arith}
 use Rattle.std.specs.List.{list_any}
 use Rattle.std.proofs.lemmas.Bool.{cases_lt}
 use Rattle.std.proofs.lemmas.List.{length-take-le, take_all}
@@ -12,8 +12,9 @@ use Rattle.txn.specs.Transactions.{HasGoodLengths, FragmentFault}
 use Rattle.order_check.specs.declared.remainder.Parts.{Parts}
 use Rattle.logged_fragments.specs.declared.logged.LoggedFragment.{LoggedFragment}
 use Rattle.log_text.specs.declared.commands.Command.{Command}
-use Rattle.log_text.specs.declared.commands.Command.TheVariants.{Offer, Join}
+use Rattle.log_text.specs.declared.commands.Command.TheVariants.{Offer, OfferTimed, Join}
 use Rattle.log_text.specs.declared.replies.Reply.{Reply}
+use Rattle.log_text.specs.declared.replies.Reply.TheVariants as told
 use Rattle.log_text.specs.declared.versions.Opening.{Opening}
 use Rattle.log_text.specs.declared.versions.Opening.TheVariants.{Ordered, Isolated}
 use Rattle.log_text.specs.declared.versions.Version.{Version}
@@ -27,9 +28,12 @@ use Rattle.round_state.specs.declared.steps.Step.TheVariants as step
 use Rattle.round_state.specs.declared.steps.StepReply.{StepReply}
 use Rattle.round_state.specs.declared.steps.StepReply.TheVariants as reply
 use Rattle.isolation_histories.specs.Offered.{HasOfferedLengths, CanBeOffered, OfferedFault}
+use Rattle.strict_histories.specs.declared.timed.Span.{Span}
+use Rattle.strict_offers.specs.Offers.{OfferedState, IsOfferedRefusal}
 use Rattle.cobra.specs.Audits.{AuditState}
 use Rattle.cobra.specs.Held.{IsEnough}
-use Rattle.cobra.specs.Scripts.{Goes, IsStep, IsTakenIn, AnswersOpen, AnswersBeside, AnswersIsolated, BeginsAnew, AnswersResuming}
+use Rattle.cobra.specs.Scripts.{Goes, IsStep, IsTakenIn, AnswersOpen, AnswersBeside, AnswersIsolated, AnswersStrict, BeginsAnew, AnswersResuming}
+use Rattle.cobra.specs.Strict.{OffersStrictly, OffersTimed, spans_of}
 use Rattle.cobra.specs.declared.handing.Handing.{Handing}
 use Rattle.cobra.specs.declared.stages.Stage.{Stage}
 use Rattle.cobra.specs.declared.stages.Stage.TheVariants as stage
@@ -181,6 +185,45 @@ isolated_answers most version old new (Offer logged) answer above is = isolated_
 isolated_answers most version old new (Join logged) answer above is = isolated_join most logged version old new answer above is
 isolated_answers most version old new command answer above is = is
 
+-- ---- where what is offered has times
+
+strict_refusal : (old : OfferedState) (front whole : LoggedFragment) (spans : List Span) (refusal : Refusal) → AreTooLong front whole → IsOfferedRefusal old front spans refusal → IsOfferedRefusal old whole spans refusal
+strict_refusal old front whole spans NoMemory long why = absurd (no_good_lengths front.fragment long.front_long why.0.lengths)
+strict_refusal old front whole spans refusal long why =
+    ⊎_elim (λ fault. inl (long_fault old.most_sessions front whole refusal long fault)) (λ good. absurd (no_good_lengths front.fragment long.front_long good.0.lengths)) why
+
+strict_offer : (old : OfferedState) (front whole : LoggedFragment) (spans : List Span) (answer : Reply) (new : OfferedState) → AreTooLong front whole → OffersStrictly old front spans answer new → OffersStrictly old whole spans answer new
+strict_offer old front whole spans told.Done new long is = absurd (no_good_lengths front.fragment long.front_long is.0.well_formed.lengths)
+strict_offer old front whole spans (told.No refusal) new long is = (strict_refusal old front whole spans refusal long is.0, is.1)
+strict_offer old front whole spans answer new long is = absurd is
+
+abbrev AreAsMany : List ℕ → List ℕ → List Bool → Type 0
+AreAsMany began ended flags = (length began ≡ length flags) × (length ended ≡ length flags)
+
+strict_timed : (old : OfferedState) (front whole : LoggedFragment) (began ended : List ℕ) (answer : Reply) (new : OfferedState) → AreTooLong front whole → OffersTimed old front began ended answer new → OffersTimed old whole began ended answer new
+strict_timed old front whole began ended answer new long is =
+    ⊎_elim (λ has. inl (subst (AreAsMany began ended) long.flags has.0, strict_offer old front whole (spans_of began ended) answer new long has.1))
+    (λ bad. inr (λ has. bad.0 (subst (AreAsMany began ended) (sym long.flags) has), bad.1, bad.2)) is
+
+strict_offered : (most : ℕ) (logged : LoggedFragment) (version : Version) (old new : OfferedState) (answer : Reply) → 256 < most → AnswersStrict version old (Offer (front_of most logged)) answer new → AnswersStrict version old (Offer logged) answer new
+strict_offered most logged version old new answer above is =
+    let front : LoggedFragment = front_of most logged in
+    ⊎_elim (λ same. subst (λ (given : LoggedFragment). AnswersStrict version old (Offer given) answer new) same is)
+    (λ long. taken_alike version front logged old new answer (OffersStrictly old front [] answer new) (OffersStrictly old logged [] answer new) long.flags (strict_offer old front logged [] answer new long) is)
+    (held_or_long most logged above)
+
+strict_offered_timed : (most : ℕ) (logged : LoggedFragment) (began ended : List ℕ) (version : Version) (old new : OfferedState) (answer : Reply) → 256 < most → AnswersStrict version old (OfferTimed (front_of most logged) began ended) answer new → AnswersStrict version old (OfferTimed logged began ended) answer new
+strict_offered_timed most logged began ended version old new answer above is =
+    let front : LoggedFragment = front_of most logged in
+    ⊎_elim (λ same. subst (λ (given : LoggedFragment). AnswersStrict version old (OfferTimed given began ended) answer new) same is)
+    (λ long. taken_alike version front logged old new answer (OffersTimed old front began ended answer new) (OffersTimed old logged began ended answer new) long.flags (strict_timed old front logged began ended answer new long) is)
+    (held_or_long most logged above)
+
+strict_answers : (most : ℕ) (version : Version) (old new : OfferedState) (command : Command) (answer : Reply) → 256 < most → AnswersStrict version old (held (Some most) command) answer new → AnswersStrict version old command answer new
+strict_answers most version old new (Offer logged) answer above is = strict_offered most logged version old new answer above is
+strict_answers most version old new (OfferTimed logged began ended) answer above is = strict_offered_timed most logged began ended version old new answer above is
+strict_answers most version old new command answer above is = is
+
 -- where no engine is open, no offer and no join is taken
 anew_answers : (most : ℕ) (old : Stage) (command : Command) (answer : Reply) (new : Stage) → BeginsAnew old (held (Some most) command) answer new → BeginsAnew old command answer new
 anew_answers most old (Offer logged) answer new is = is
@@ -198,3 +241,4 @@ enough_held most (stage.Resuming sessions limit opening) above none command answ
 enough_held most (stage.Handing handed opening) above none command answer new is = absurd (none handed opening refl)
 enough_held most (stage.Open old version) above none command answer new is = (is.0, beside_answers most version old is.0 command answer above is.1, is.2)
 enough_held most (stage.Isolated old version) above none command answer new is = (is.0, isolated_answers most version old is.0 command answer above is.1, is.2)
+enough_held most (stage.Strict old version) above none command answer new is = (is.0, strict_answers most version old is.0 command answer above is.1, is.2)

@@ -20,5 +20,8 @@ pub mod Resumed
 pub mod ScriptRounds
 pub mod ServedLines
 pub mod SearchedAnswers
+pub mod Spans
 pub mod SplitStages
+pub mod StrictLines
+pub mod StrictReports
 pub mod TrueReports

@@ -3,7 +3,7 @@ use Rattle.std.proofs.Common.{◌≡◌, ℕ, ◌≤◌, List, length, take, Opt
 use Rattle.std.proofs.lemmas.List.{length-take}
 use Rattle.txn.specs.declared.transactions.Txn.{Txn}
 use Rattle.log_text.specs.declared.commands.Command.{Command}
-use Rattle.log_text.specs.declared.commands.Command.TheVariants.{Offer, Join}
+use Rattle.log_text.specs.declared.commands.Command.TheVariants.{Offer, OfferTimed, Join}
 use Rattle.log_text.specs.Held.{held}
 use Rattle.cobra.specs.Held.{HasAtMost}
 
@@ -13,6 +13,7 @@ taken_few most txns = let is = length-take most txns in omega (arith, is)
 held_few : (most : Option ℕ) (whole : Command) → HasAtMost most (held most whole)
 held_few None whole = tt
 held_few (Some most) (Offer logged) = taken_few most logged.fragment.txns
+held_few (Some most) (OfferTimed logged began ended) = taken_few most logged.fragment.txns
 held_few (Some most) (Join logged) = taken_few most logged.fragment.txns
 held_few (Some most) whole = tt
 

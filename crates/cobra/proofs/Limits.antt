@@ -1,5 +1,5 @@
 -- Whatever a script is asked, its bounds stay.
-use Rattle.std.proofs.Common.{◌≡◌, ℕ, ◌*◌, Bool, List, true, false, Option, Some, None, refl, sym, ap, subst, ◌∙◌, ⊎_elim}
+use Rattle.std.proofs.Common.{◌≡◌, ℕ, ◌*◌, Bool, List, [], true, false, Option, Some, None, refl, sym, ap, subst, ◌∙◌, ⊎_elim}
 use Rattle.std.specs.FinMap.{FinMap}
 use Rattle.std.specs.Ordering.{nat_cmp}
 use Rattle.std.specs.Prelude.{MatchOption, IfSome, ◌⊎◌, cond}
@@ -12,7 +12,7 @@ use Rattle.order_check.specs.StandsFor.{Joins, Returns, parts_after}
 use Rattle.logged_fragments.specs.declared.logged.LoggedFragment.{LoggedFragment}
 use Rattle.logged_fragments.specs.Effects.{effects}
 use Rattle.log_text.specs.declared.commands.Command.{Command}
-use Rattle.log_text.specs.declared.commands.Command.TheVariants.{Start, StartIsolated, Offer, Join, Close, Begin, Finish, Round, BeginSearch, Collect, Skip, Truncate, Rebuild, Show, Resume, Marks, MarksBegun, Last, Resumed, Save, Answer}
+use Rattle.log_text.specs.declared.commands.Command.TheVariants.{Start, StartIsolated, StartStrict, Offer, OfferTimed, Join, Close, Begin, Finish, Round, BeginSearch, Collect, Skip, Truncate, Rebuild, Show, Resume, Marks, MarksBegun, Last, Resumed, Save, Answer}
 use Rattle.log_text.specs.declared.commands.Effort.{Effort}
 use Rattle.log_text.specs.declared.replies.Reply.{Reply}
 use Rattle.log_text.specs.declared.replies.Reply.TheVariants as told
@@ -32,7 +32,10 @@ use Rattle.isolation_scripts.specs.Splitting.{split_command}
 use Rattle.cobra.specs.Audits.{AuditState, unsearched}
 use Rattle.cobra.specs.HandOver.{handed_parts}
 use Rattle.cobra.specs.Limits.{BoundsStay, HasBoundsFor, IsLimitFor, KeepsBounds}
-use Rattle.cobra.specs.Scripts.{AnswersBeside, AnswersFirst, AnswersHanding, AnswersIsolated, AnswersOpen, AnswersResuming, BeginsAnew, EndsHandOver, EndsRound, Goes, GoesOn, HandsMarks, HandsOffer, HandsWriters, IsCollected, IsRound, IsStep, IsTakenIn, Opens, OpensIsolated, Resumes, TakesHalves, TakesMarks, TakesOver, opened, stage_after, version_of}
+use Rattle.cobra.specs.Scripts.{AnswersBeside, AnswersFirst, AnswersHanding, AnswersIsolated, AnswersOpen, AnswersResuming, AnswersStrict, BeginsAnew, EndsHandOver, EndsRound, Goes, GoesOn, HandsMarks, HandsOffer, HandsWriters, IsCollected, IsRound, IsStep, IsTakenIn, IsVersionLimit, Opens, OpensIsolated, OpensStrict, Resumes, TakesHalves, TakesMarks, TakesOver, opened, stage_after, version_of}
+use Rattle.cobra.specs.Strict.{OffersStrictly, OffersTimed, spans_of}
+use Rattle.strict_histories.specs.declared.timed.Span.{Span}
+use Rattle.strict_offers.specs.Offers.{OfferedState}
 use Rattle.cobra.specs.declared.handing.Handing.{Handing}
 use Rattle.cobra.specs.declared.stages.Stage.{Stage}
 use Rattle.cobra.specs.declared.stages.Stage.TheVariants as stage
@@ -155,6 +158,11 @@ opens_isolated sessions limit version told.Done begun is = subst Has (sym is.2) 
 opens_isolated sessions limit version (told.No refusal) begun is = subst Has (sym is.1) tt
 opens_isolated sessions limit version answer begun is = absurd is
 
+opens_strict : (sessions limit : ℕ) (version : Version) (answer : Reply) (begun : Option Stage) → OpensStrict sessions limit version answer begun → Has begun
+opens_strict sessions limit version told.Done begun is = subst Has (sym is.2) (refl, is.1)
+opens_strict sessions limit version (told.No refusal) begun is = subst Has (sym is.1) tt
+opens_strict sessions limit version answer begun is = absurd is
+
 resumes : (sessions limit : ℕ) (opening : Opening) (answer : Reply) (begun : Option Stage) → Resumes sessions limit opening answer begun → Has begun
 resumes sessions limit (Ordered version) told.Done begun is = subst Has (sym is.2) is.1
 resumes sessions limit (Ordered version) (told.No refusal) begun is = subst Has (sym is.1) tt
@@ -165,6 +173,7 @@ resumes sessions limit opening answer begun is = absurd is
 first_has : (command : Command) (answer : Reply) (begun : Option Stage) → AnswersFirst command answer begun → Has begun
 first_has (Start sessions limit version) answer begun is = opens sessions limit version answer begun is
 first_has (StartIsolated sessions limit version) answer begun is = opens_isolated sessions limit version answer begun is
+first_has (StartStrict sessions limit version) answer begun is = opens_strict sessions limit version answer begun is
 first_has (Resume sessions limit opening) answer begun is = resumes sessions limit opening answer begun is
 first_has command answer begun is = subst Has (sym is.1) tt
 
@@ -226,6 +235,23 @@ handing handed (Ordered version) command answer new is has = takes_over handed (
 handing handed (Isolated version) command answer new is has =
     ⊎_elim (λ bad. subst KeepsBounds (sym bad.2) has) (λ half. takes_over handed (Isolated version) (half_command handed.parts command) answer new half.1 has) is
 
+-- ---- what is offered with its times
+
+abbrev offer_bounds : OfferedState → ℕ × ℕ
+offer_bounds state = (state.most_sessions, state.limit)
+
+offers_stay : (old : OfferedState) (logged : LoggedFragment) (spans : List Span) (answer : Reply) (new : OfferedState) → OffersStrictly old logged spans answer new → offer_bounds new ≡ offer_bounds old
+offers_stay old logged spans told.Done new is = ap offer_bounds is.1
+offers_stay old logged spans (told.No refusal) new is = ap offer_bounds is.1
+offers_stay old logged spans answer new is = absurd is
+
+strict_stays : (version : Version) (old new : OfferedState) (command : Command) (answer : Reply) → AnswersStrict version old command answer new → offer_bounds new ≡ offer_bounds old
+strict_stays version old new (Offer logged) answer is = ⊎_elim (λ one. offers_stay old logged [] answer new one.1) (λ bad. ap offer_bounds bad.1.1) is
+strict_stays version old new (OfferTimed logged began ended) answer is =
+    ⊎_elim (λ one. ⊎_elim (λ has. offers_stay old logged (spans_of began ended) answer new has.1) (λ bad. ap offer_bounds bad.2) one.1) (λ bad. ap offer_bounds bad.1.1) is
+strict_stays version old new (Round budget depth workers search) answer is = ⊎_elim (λ refused. ap offer_bounds refused.3) (λ made. ap offer_bounds made.5) is
+strict_stays version old new command answer is = ap offer_bounds is.1
+
 -- ---- any command
 
 -- these are the bounds of what is opened for this
@@ -240,3 +266,5 @@ bounds_stay (stage.Open old version) new command answer is has =
     subst KeepsBounds (sym is.2) (subst (λ (bounds : ℕ × ℕ). AreFor (Ordered version) bounds) (sym (beside_stays version old is.0 command answer is.1)) has)
 bounds_stay (stage.Isolated old version) new command answer is has =
     subst KeepsBounds (sym is.2) (subst (λ (bounds : ℕ × ℕ). AreFor (Isolated version) bounds) (sym (isolated_stays version old is.0 command answer is.1)) has)
+bounds_stay (stage.Strict old version) new command answer is has =
+    subst KeepsBounds (sym is.2) (subst (λ (bounds : ℕ × ℕ). (bounds.0 ≡ most_sessions version) × IsVersionLimit version bounds.1) (sym (strict_stays version old is.0 command answer is.1)) has)

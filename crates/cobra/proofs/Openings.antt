@@ -6,6 +6,7 @@ use Rattle.log_text.specs.Versions.{greatest_limit, greatest_split_limit, most_s
 use Rattle.log_text.specs.declared.versions.Version.{Version}
 use Rattle.log_text.specs.declared.versions.Version.TheVariants.{One, Two, Three}
 use Rattle.round_state.specs.Opening.{IsSessions, IsLimit, IsOpenRefusal}
+use Rattle.strict_offers.specs.Offers.{AreBounds}
 use Rattle.cobra.specs.Scripts.{AreVersionSessions, IsBeginningRefusal, IsIsolatedLimit, IsIsolatedRefusal, IsLimitWithin, IsVersionLimit, IsVersionRefusal}
 
 -- whatever a version lets remain, an engine does
@@ -35,3 +36,9 @@ version_refusal version many sessions limit refusal is may why =
 pub isolated_refusal : (version : Version) (many sessions limit : ℕ) (refusal : Refusal) → many ≡ most_sessions version → AreVersionSessions version sessions × IsIsolatedLimit version limit → IsOpenRefusal many sessions (2 * limit) refusal → IsIsolatedRefusal version sessions limit refusal
 isolated_refusal version many sessions limit refusal is may why =
     engine_refusal (most_sessions version) (greatest_split_limit version) sessions limit (2 * limit) refusal may (halves_fit version limit may.1) (subst (λ (n : ℕ). IsOpenRefusal n sessions (2 * limit) refusal) is why)
+
+-- whatever a version lets remain may be offered
+pub version_bounds : (version : Version) (sessions limit : ℕ) → AreVersionSessions version sessions → IsVersionLimit version limit → AreBounds (most_sessions version) sessions limit
+version_bounds One sessions limit are is = let low = is.0 in let high = is.1 in record { some_sessions = are.0; few_sessions = are.1; low_sessions = omega arith; some_limit = low; low_limit = omega (arith, high) }
+version_bounds Two sessions limit are is = let low = is.0 in let high = is.1 in record { some_sessions = are.0; few_sessions = are.1; low_sessions = omega arith; some_limit = low; low_limit = omega (arith, high) }
+version_bounds Three sessions limit are is = let low = is.0 in let high = is.1 in record { some_sessions = are.0; few_sessions = are.1; low_sessions = omega arith; some_limit = low; low_limit = omega (arith, high) }

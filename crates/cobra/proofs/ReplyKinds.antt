@@ -1,15 +1,15 @@
 -- Only a report that is serial or pending is told with an order.
-use Rattle.std.proofs.Common.{◌≡◌, ℕ, ◌+◌, List, Bool, true, false, cond, nat_lt, length, Option, Some, None, sym, subst, ⊎_elim}
+use Rattle.std.proofs.Common.{◌≡◌, ℕ, ◌+◌, List, [], Bool, true, false, cond, nat_lt, length, Option, Some, None, sym, subst, ⊎_elim}
 use Rattle.std.specs.Prelude.{IsSomeAnd, MatchOption, ◌⊎◌}
 use Rattle.order_check.specs.declared.remainder.Kind.{Kind}
 use Rattle.order_check.specs.declared.remainder.Kind.TheVariants as kinds
 use Rattle.order_check.specs.declared.remainder.Parts.{Parts}
 use Rattle.log_text.specs.declared.commands.Command.{Command}
-use Rattle.log_text.specs.declared.commands.Command.TheVariants.{Start, StartIsolated, Offer, Join, Close, Begin, Finish, Round, BeginSearch, Collect, Skip, Truncate, Rebuild, Show, Resume, Marks, MarksBegun, Last, Resumed, Save, Answer}
+use Rattle.log_text.specs.declared.commands.Command.TheVariants.{Start, StartIsolated, StartStrict, Offer, OfferTimed, Join, Close, Begin, Finish, Round, BeginSearch, Collect, Skip, Truncate, Rebuild, Show, Resume, Marks, MarksBegun, Last, Resumed, Save, Answer}
 use Rattle.log_text.specs.declared.replies.Reply.{Reply}
 use Rattle.log_text.specs.declared.replies.Reply.TheVariants as told
 use Rattle.log_text.specs.Replies.{HasKindOfOrder}
-use Rattle.round_state.specs.EngineState.{EngineState}
+use Rattle.round_state.specs.EngineState.{EngineState, engine_over}
 use Rattle.round_state.specs.Solving.{IsRight, IsReportOn}
 use Rattle.round_state.specs.Steps.{Shows, IsRightReport, IsHeldAfter, answer_claimed}
 use Rattle.polygraph.specs.declared.solving.Answer as solved
@@ -43,8 +43,11 @@ use Rattle.cobra.specs.Audits.{AuditState}
 use Rattle.cobra.specs.declared.handing.Handing.{Handing}
 use Rattle.cobra.specs.declared.stages.Stage.{Stage}
 use Rattle.cobra.specs.declared.stages.Stage.TheVariants as stage
-use Rattle.cobra.specs.Scripts.{IsBadLine, Goes, EndsRound, IsRound, IsStep, IsTakenIn, AnswersOpen, AnswersBeside, AnswersIsolated, GoesOn, IsCollected, Opens, OpensIsolated, Resumes, AnswersFirst, BeginsAnew, HandsMarks, AnswersResuming, HandsWriters, HandsOffer, EndsHandOver, AnswersHanding, Answers, TakesHalves, TakesMarks, TakesOver}
+use Rattle.cobra.specs.Scripts.{IsBadLine, Goes, EndsRound, IsRound, IsStep, IsTakenIn, AnswersOpen, AnswersBeside, AnswersIsolated, AnswersStrict, GoesOn, IsCollected, Opens, OpensIsolated, OpensStrict, RoundsStrictly, Resumes, AnswersFirst, BeginsAnew, HandsMarks, AnswersResuming, HandsWriters, HandsOffer, EndsHandOver, AnswersHanding, Answers, TakesHalves, TakesMarks, TakesOver}
 use Rattle.cobra.specs.StepReplies.{claim_of, certified, report_of, reply_of}
+use Rattle.cobra.specs.Strict.{OffersStrictly, OffersTimed, spans_of}
+use Rattle.strict_histories.specs.declared.timed.Span.{Span}
+use Rattle.strict_offers.specs.Offers.{OfferedState, strict_parts}
 
 -- what a certificate shows is told by its own kind
 certified_kind : (round : ℕ) (counts : List ℕ) (parts : Parts) (budget depth : ℕ) (kind : Kind) (certificate : Certificate) → Shows parts budget depth kind certificate → HasKindOfOrder (certified (record { round = round; kind = kind; counts = counts; certificate = certificate }) certificate)
@@ -123,6 +126,8 @@ open_kind version old new (Close session) answer is = told_kind is.0 answer is.2
 open_kind version old new (Save wanted) answer is = subst HasKindOfOrder (sym is.0) (saved_kind old.parts wanted)
 open_kind version old new (Start sessions limit begun) answer is = bad_line_kind old new answer is
 open_kind version old new (StartIsolated sessions limit begun) answer is = bad_line_kind old new answer is
+open_kind version old new (StartStrict sessions limit begun) answer is = bad_line_kind old new answer is
+open_kind version old new (OfferTimed logged began ended) answer is = bad_line_kind old new answer is
 open_kind version old new (Resume sessions limit begun) answer is = bad_line_kind old new answer is
 open_kind version old new (Marks marks closed) answer is = bad_line_kind old new answer is
 open_kind version old new (MarksBegun marks closed begun) answer is = bad_line_kind old new answer is
@@ -177,6 +182,39 @@ isolates_kind : (version : Version) (old new : AuditState) (command : Command) (
 isolates_kind version old new command answer is =
     ⊎_elim (λ fault. subst HasKindOfOrder (sym fault.2) tt) (λ split. subst HasKindOfOrder (sym split.3) (isolated_kind split.1 (beside_kind version old new (split_command command) split.1 split.2))) is
 
+-- a report with another number
+renumbered_kind : (old new : ℕ) (kind : Kind) (counts : List ℕ) (certificate : Certificate)
+    → HasKindOfOrder (certified (record { round = old; kind = kind; counts = counts; certificate = certificate }) certificate)
+    → HasKindOfOrder (certified (record { round = new; kind = kind; counts = counts; certificate = certificate }) certificate)
+renumbered_kind old new kinds.Serial counts (Order order) of = tt
+renumbered_kind old new kinds.Pending counts (Order order) of = tt
+renumbered_kind old new kinds.Violated counts (Order order) of = absurd of
+renumbered_kind old new kinds.Spent counts (Order order) of = absurd of
+renumbered_kind old new kind counts (Refuted tree) of = tt
+renumbered_kind old new kind counts Nothing of = tt
+
+strict_round_kind : (old new : OfferedState) (search : Search) (budget depth workers : ℕ) (answer : Reply) → RoundsStrictly old search budget depth workers answer new → HasKindOfOrder answer
+strict_round_kind old new search budget depth workers answer is =
+    ⊎_elim (λ refused. subst HasKindOfOrder (sym refused.2) tt)
+    (λ made. subst HasKindOfOrder (sym made.4)
+    (renumbered_kind made.0.round (old.rounds + 1) made.0.kind made.0.counts made.0.certificate (round_kind (engine_over (strict_parts old)) made.1 search budget depth workers (reply.Report made.0) made.2)))
+    is
+
+offers_kind : (old : OfferedState) (logged : LoggedFragment) (spans : List Span) (answer : Reply) (new : OfferedState) → OffersStrictly old logged spans answer new → HasKindOfOrder answer
+offers_kind old logged spans told.Done new is = tt
+offers_kind old logged spans (told.No refusal) new is = tt
+offers_kind old logged spans answer new is = absurd is
+
+offers_timed_kind : (old : OfferedState) (logged : LoggedFragment) (began ended : List ℕ) (answer : Reply) (new : OfferedState) → OffersTimed old logged began ended answer new → HasKindOfOrder answer
+offers_timed_kind old logged began ended answer new is =
+    ⊎_elim (λ has. offers_kind old logged (spans_of began ended) answer new has.1) (λ bad. subst HasKindOfOrder (sym bad.1) tt) is
+
+strict_kind : (version : Version) (old new : OfferedState) (command : Command) (answer : Reply) → AnswersStrict version old command answer new → HasKindOfOrder answer
+strict_kind version old new (Offer logged) answer is = taken_kind version logged old new answer (OffersStrictly old logged [] answer new) (λ taken. offers_kind old logged [] answer new taken) is
+strict_kind version old new (OfferTimed logged began ended) answer is = taken_kind version logged old new answer (OffersTimed old logged began ended answer new) (λ taken. offers_timed_kind old logged began ended answer new taken) is
+strict_kind version old new (Round budget depth workers search) answer is = strict_round_kind old new search budget depth workers answer is
+strict_kind version old new command answer is = subst HasKindOfOrder (sym is.0) tt
+
 opens_isolated_kind : (sessions limit : ℕ) (version : Version) (answer : Reply) (begun : Option Stage) → OpensIsolated sessions limit version answer begun → HasKindOfOrder answer
 opens_isolated_kind sessions limit version told.Done begun is = tt
 opens_isolated_kind sessions limit version (told.No refusal) begun is = tt
@@ -186,6 +224,11 @@ opens_kind : (sessions limit : ℕ) (version : Version) (answer : Reply) (begun 
 opens_kind sessions limit version told.Done begun is = tt
 opens_kind sessions limit version (told.No refusal) begun is = tt
 opens_kind sessions limit version answer begun is = absurd is
+
+opens_strict_kind : (sessions limit : ℕ) (version : Version) (answer : Reply) (begun : Option Stage) → OpensStrict sessions limit version answer begun → HasKindOfOrder answer
+opens_strict_kind sessions limit version told.Done begun is = tt
+opens_strict_kind sessions limit version (told.No refusal) begun is = tt
+opens_strict_kind sessions limit version answer begun is = absurd is
 
 resumes_kind : (sessions limit : ℕ) (opening : Opening) (answer : Reply) (begun : Option Stage) → Resumes sessions limit opening answer begun → HasKindOfOrder answer
 resumes_kind sessions limit (Ordered version) told.Done begun is = tt
@@ -198,6 +241,7 @@ resumes_kind sessions limit (Isolated version) answer begun is = absurd is
 first_kind : (command : Command) (answer : Reply) (begun : Option Stage) → AnswersFirst command answer begun → HasKindOfOrder answer
 first_kind (Start sessions limit version) answer begun is = opens_kind sessions limit version answer begun is
 first_kind (StartIsolated sessions limit version) answer begun is = opens_isolated_kind sessions limit version answer begun is
+first_kind (StartStrict sessions limit version) answer begun is = opens_strict_kind sessions limit version answer begun is
 first_kind (Resume sessions limit opening) answer begun is = resumes_kind sessions limit opening answer begun is
 first_kind command answer begun is = subst HasKindOfOrder (sym is.0) tt
 
@@ -254,3 +298,4 @@ answer_kind (stage.Resuming sessions limit opening) command answer new is = resu
 answer_kind (stage.Handing handed opening) command answer new is = handing_kind handed opening command answer new is
 answer_kind (stage.Open old version) command answer new is = beside_kind version old is.0 command answer is.1
 answer_kind (stage.Isolated old version) command answer new is = isolates_kind version old is.0 command answer is.1
+answer_kind (stage.Strict old version) command answer new is = strict_kind version old is.0 command answer is.1

@@ -17,7 +17,7 @@ use Rattle.order_check.specs.declared.remainder.Parts.{Parts}
 use Rattle.order_check.specs.StandsFor.{StandsFor, history_after, with_fragment}
 use Rattle.order_check.specs.Whole.{ExplainsWhole}
 use Rattle.log_text.specs.declared.commands.Command.{Command}
-use Rattle.log_text.specs.declared.commands.Command.TheVariants.{Start, StartIsolated, Offer, Join, Close, Begin, Finish, Round, BeginSearch, Collect, Skip, Truncate, Rebuild, Show, Resume, Marks, MarksBegun, Last, Resumed, Save, Answer}
+use Rattle.log_text.specs.declared.commands.Command.TheVariants.{Start, StartIsolated, StartStrict, Offer, OfferTimed, Join, Close, Begin, Finish, Round, BeginSearch, Collect, Skip, Truncate, Rebuild, Show, Resume, Marks, MarksBegun, Last, Resumed, Save, Answer}
 use Rattle.log_text.specs.declared.commands.Wanted.{Wanted}
 use Rattle.log_text.specs.declared.commands.Wanted.TheVariants as wanted
 use Rattle.log_text.specs.declared.replies.Reply.{Reply}
@@ -65,11 +65,12 @@ use Rattle.whole_orders.specs.Laws.{FreshEnginesGoOn, LeftPartsGoOn, ReportedOrd
 use Rattle.whole_orders.specs.Left.{EndsOrder, EndsOrderIfAny, HoldsLeft, IsLeftOf}
 use Rattle.engine_pasts.specs.Holding.{HoldsBehind, MovesOn, StandsBehind}
 use Rattle.engine_pasts.specs.Laws.{FreshEnginesHoldBehind, HalvesAreToldBehind, PartsHoldBehind, ReportedOrdersStandBehind, StepsHoldBehind, ToldBehind}
+use Rattle.strict_offers.specs.Offers.{OfferedState}
 use Rattle.cobra.specs.Audits.{AuditState}
 use Rattle.cobra.specs.HandOver.{handed_parts}
 use Rattle.cobra.specs.Outputs.{RepliesAll}
 use Rattle.cobra.specs.Saving.{saved_told, fragment_told}
-use Rattle.cobra.specs.Scripts.{IsBadLine, IsTakenIn, Goes, IsStep, EndsRound, IsRound, AnswersOpen, AnswersBeside, AnswersIsolated, GoesOn, IsCollected, state_told, AnswersFirst, BeginsAnew, AnswersResuming, AnswersHanding, HandsMarks, HandsOffer, EndsHandOver, Answers, TakesHalves, TakesMarks, TakesOver, stage_after}
+use Rattle.cobra.specs.Scripts.{IsBadLine, IsTakenIn, Goes, IsStep, EndsRound, IsRound, AnswersOpen, AnswersBeside, AnswersIsolated, AnswersStrict, GoesOn, IsCollected, state_told, AnswersFirst, BeginsAnew, AnswersResuming, AnswersHanding, HandsMarks, HandsOffer, EndsHandOver, Answers, TakesHalves, TakesMarks, TakesOver, stage_after}
 use Rattle.cobra.specs.StepReplies.{claim_of, certified, reply_of}
 use Rattle.cobra.specs.TrueReports.{Accepted, Origin, accepted_more, accepted_after, moved, reported_on, TellsTrueOf, MovesTxns, MovesHalves, IsKept, IsTrueTold, BeginsWith, AreTrueReplies, EachReportIsTrue}
 use Rattle.cobra.specs.declared.handing.Handing.{Handing}
@@ -107,6 +108,7 @@ Fits (stage.Open audit version) None = ⊥
 Fits (stage.Isolated audit version) (Some accepted) = StandsSplit audit.engine accepted
 Fits (stage.Isolated audit version) None = ⊥
 Fits stage.Nothing None = ⊤
+Fits (stage.Strict offered version) None = ⊤
 Fits (stage.Resuming sessions limit opening) None = ⊤
 Fits (stage.Handing handed opening) None = ⊤
 Fits other (Some accepted) = ⊥
@@ -420,6 +422,8 @@ open_on w version old new accepted (Save wanted) answer is holds =
     subst (λ (a : Reply). IsOn accepted (Save wanted) a new) (sym is.0) (quietly accepted (Save wanted) (saved_told old.parts wanted) new (saved_true accepted.left accepted.past accepted.asked old.parts wanted) (saved_moves old.parts wanted) (same_on old new accepted is.1 holds))
 open_on w version old new accepted (Start sessions limit other) answer is holds = bad_on old new accepted (Start sessions limit other) answer is holds
 open_on w version old new accepted (StartIsolated sessions limit other) answer is holds = bad_on old new accepted (StartIsolated sessions limit other) answer is holds
+open_on w version old new accepted (StartStrict sessions limit other) answer is holds = bad_on old new accepted (StartStrict sessions limit other) answer is holds
+open_on w version old new accepted (OfferTimed logged began ended) answer is holds = bad_on old new accepted (OfferTimed logged began ended) answer is holds
 open_on w version old new accepted (Resume sessions limit other) answer is holds = bad_on old new accepted (Resume sessions limit other) answer is holds
 open_on w version old new accepted (Marks marks closed) answer is holds = bad_on old new accepted (Marks marks closed) answer is holds
 open_on w version old new accepted (MarksBegun marks closed begun) answer is holds = bad_on old new accepted (MarksBegun marks closed begun) answer is holds
@@ -691,6 +695,9 @@ first_fits laws origin old (StartIsolated sessions limit version) told.Done begu
     })
 first_fits laws origin old (StartIsolated sessions limit version) (told.No refusal) begun none first = along_begun origin old (StartIsolated sessions limit version) (told.No refusal) begun None first.1 none
 first_fits laws origin old (StartIsolated sessions limit version) answer begun none first = absurd first
+first_fits laws origin old (StartStrict sessions limit version) told.Done begun none first = along_begun origin old (StartStrict sessions limit version) told.Done begun _ first.2 tt
+first_fits laws origin old (StartStrict sessions limit version) (told.No refusal) begun none first = along_begun origin old (StartStrict sessions limit version) (told.No refusal) begun None first.1 none
+first_fits laws origin old (StartStrict sessions limit version) answer begun none first = absurd first
 first_fits laws origin old (Resume sessions limit (Ordered version)) told.Done begun none first = along_begun origin old (Resume sessions limit (Ordered version)) told.Done begun _ first.2 tt
 first_fits laws origin old (Resume sessions limit (Ordered version)) (told.No refusal) begun none first = along_begun origin old (Resume sessions limit (Ordered version)) (told.No refusal) begun None first.1 none
 first_fits laws origin old (Resume sessions limit (Ordered version)) answer begun none first = absurd first
@@ -814,10 +821,23 @@ isolated_fits laws old version new accepted command answer is holds =
       fits = subst (λ (s : Stage). Fits s (Some (moved (accepted_more accepted command answer) on.ahead))) (sym is.2) on.holds;
     }
 
+-- a script that is asked for strict serializability has no engine
+strict_accepts : (origin : Origin) (version : Version) (old new : OfferedState) (command : Command) (answer : Reply) → AnswersStrict version old command answer new → accepted_after origin None command answer ≡ None
+strict_accepts origin version old new (Start sessions limit begun) answer is = ap (accepted_after origin None (Start sessions limit begun)) is.0
+strict_accepts origin version old new (StartIsolated sessions limit begun) answer is = ap (accepted_after origin None (StartIsolated sessions limit begun)) is.0
+strict_accepts origin version old new Resumed answer is = ap (accepted_after origin None Resumed) is.0
+strict_accepts origin version old new command answer is = refl
+
+strict_fits : (origin : Origin) (old : OfferedState) (version : Version) (new : Stage) (command : Command) (answer : Reply) → Answers (stage.Strict old version) command answer new → Fits new (accepted_after origin None command answer)
+strict_fits origin old version new command answer is =
+    subst (λ (s : Stage). Fits s (accepted_after origin None command answer)) (sym is.2)
+    (subst (λ (o : Option Accepted). Fits (stage.Strict is.0 version) o) (sym (strict_accepts origin version old is.0 command answer is.1)) tt)
+
 -- where no engine is open
 begins_fit : Laws → (origin : Origin) (old new : Stage) (command : Command) (answer : Reply) → Answers old command answer new → Fits old None → BeginsWith origin old command answer → Fits new (accepted_after origin None command answer)
 begins_fit laws origin (stage.Isolated audit version) new command answer is fits begins = absurd fits
 begins_fit laws origin (stage.Open engine version) new command answer is fits begins = absurd fits
+begins_fit laws origin (stage.Strict offered version) new command answer is fits begins = strict_fits origin offered version new command answer is
 begins_fit laws origin stage.Nothing new command answer is fits begins = anew_fits laws origin stage.Nothing new command answer tt is
 begins_fit laws origin (stage.Resuming sessions limit opening) new command answer is fits begins = resuming_fits laws origin sessions limit opening new command answer is
 begins_fit laws origin (stage.Handing handed opening) new command answer is fits begins = handing_fits laws origin handed opening new command answer is begins
@@ -827,6 +847,7 @@ fits_still new None fits = fits
 fits_still (stage.Open audit version) (Some accepted) fits = stands_still audit.engine accepted fits
 fits_still (stage.Isolated audit version) (Some accepted) fits = split_still audit.engine accepted fits
 fits_still stage.Nothing (Some accepted) fits = absurd fits
+fits_still (stage.Strict offered version) (Some accepted) fits = absurd fits
 fits_still (stage.Resuming sessions limit opening) (Some accepted) fits = absurd fits
 fits_still (stage.Handing handed opening) (Some accepted) fits = absurd fits
 
@@ -841,6 +862,7 @@ are_kept laws old None fits = tt
 are_kept laws (stage.Open audit version) (Some accepted) fits = fits.behind
 are_kept laws (stage.Isolated audit version) (Some accepted) fits = kept_open laws audit accepted fits
 are_kept laws stage.Nothing (Some accepted) fits = absurd fits
+are_kept laws (stage.Strict offered version) (Some accepted) fits = absurd fits
 are_kept laws (stage.Resuming sessions limit opening) (Some accepted) fits = absurd fits
 are_kept laws (stage.Handing handed opening) (Some accepted) fits = absurd fits
 
@@ -863,17 +885,18 @@ answers_on laws origin (stage.Isolated audit version) new (Some accepted) comman
     let on = isolated_fits laws audit version new accepted command answer is fits in
     record { ahead = on.ahead; is_true = on.is_true; fits = λ begins. on.fits }
 answers_on laws origin stage.Nothing new (Some accepted) command answer is fits = absurd fits
+answers_on laws origin (stage.Strict offered version) new (Some accepted) command answer is fits = absurd fits
 answers_on laws origin (stage.Resuming sessions limit opening) new (Some accepted) command answer is fits = absurd fits
 answers_on laws origin (stage.Handing handed opening) new (Some accepted) command answer is fits = absurd fits
 
 -- the replies to lines
-abbrev replies_in : (old new : Stage) (lines texts : List (List ℕ)) → RepliesAll old lines texts new → List Reply
+abbrev pub replies_in : (old new : Stage) (lines texts : List (List ℕ)) → RepliesAll old lines texts new → List Reply
 replies_in old new [] [] all = []
 replies_in old new (line ∷ lines) (text ∷ texts) all = all.1.answer ∷ replies_in all.0 new lines texts all.2
 replies_in old new [] (text ∷ texts) all = absurd all
 replies_in old new (line ∷ lines) [] all = absurd all
 
-texts_of : (old new : Stage) (lines texts : List (List ℕ)) (all : RepliesAll old lines texts new) → concat texts ≡ concat (map line_of (replies_in old new lines texts all))
+pub texts_of : (old new : Stage) (lines texts : List (List ℕ)) (all : RepliesAll old lines texts new) → concat texts ≡ concat (map line_of (replies_in old new lines texts all))
 texts_of old new [] [] all = refl
 texts_of old new (line ∷ lines) (text ∷ texts) all =
     ap (λ (bytes : List ℕ). bytes ++ concat texts) all.1.text_is ∙ ap (λ (bytes : List ℕ). line_of all.1.answer ++ bytes) (texts_of all.0 new lines texts all.2)

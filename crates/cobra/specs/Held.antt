@@ -1,7 +1,7 @@
 -- For private clauses: how much of a command is held while it is answered.
 use Rattle.std.specs.Prelude.{◌≡◌, ◌≤◌, ℕ, ⊤, List, length, Option, Some, None}
 use Rattle.log_text.specs.declared.commands.Command.{Command}
-use Rattle.log_text.specs.declared.commands.Command.TheVariants.{Offer, Join}
+use Rattle.log_text.specs.declared.commands.Command.TheVariants.{Offer, OfferTimed, Join}
 use Rattle.log_text.specs.declared.replies.Reply.{Reply}
 use Rattle.log_text.specs.Held.{held}
 use Rattle.cobra.specs.Outputs.{Asks}
@@ -26,6 +26,7 @@ AsksWithin most line command = (whole : Command) × Asks line whole × (command 
 abbrev pub HasAtMost : Option ℕ → Command → Type 0
 HasAtMost None command = ⊤
 HasAtMost (Some most) (Offer logged) = length logged.fragment.txns ≤ most
+HasAtMost (Some most) (OfferTimed logged began ended) = length logged.fragment.txns ≤ most
 HasAtMost (Some most) (Join logged) = length logged.fragment.txns ≤ most
 HasAtMost (Some most) command = ⊤
 

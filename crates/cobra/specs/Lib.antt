@@ -11,4 +11,6 @@ pub mod Scripts
 pub mod StepReplies
 pub mod Searches
 pub mod SplitStages
+pub mod Strict
+pub mod StrictReports
 pub mod TrueReports

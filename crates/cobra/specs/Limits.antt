@@ -27,6 +27,7 @@ KeepsBounds (stage.Resuming sessions limit opening) = IsLimitFor opening limit
 KeepsBounds (stage.Handing handed opening) = HasBoundsFor opening handed.parts
 KeepsBounds (stage.Open audit version) = HasBoundsFor (Ordered version) audit.engine.parts
 KeepsBounds (stage.Isolated audit version) = HasBoundsFor (Isolated version) audit.engine.parts
+KeepsBounds (stage.Strict offered version) = (offered.most_sessions ≡ most_sessions version) × IsVersionLimit version offered.limit
 
 -- Whatever a script is asked, it has such bounds after it, where it had them; where nothing has begun it has them.
 abbrev pub BoundsStay : Type 0

@@ -1,5 +1,5 @@
 -- What the commands of a script are answered, and what they lead to.
-use Rattle.std.specs.Prelude.{◌≡◌, ℕ, ◌*◌, ◌≤◌, ◌⊎◌, Bool, true, false, List, length, sum_by, Option, Some, None, MatchOption}
+use Rattle.std.specs.Prelude.{◌≡◌, ℕ, ◌+◌, ◌-◌, ◌*◌, ◌^◌, ◌<◌, ◌≤◌, ◌⊎◌, Bool, true, false, List, [], length, sum_by, Option, Some, None, MatchOption}
 use Rattle.std.specs.FinMap as map
 use Rattle.txn.specs.declared.transactions.TxnId.{TxnId}
 use Rattle.txn.specs.declared.transactions.Fragment.{Fragment}
@@ -10,7 +10,7 @@ use Rattle.order_check.specs.declared.remainder.Parts.{Parts}
 use Rattle.order_check.specs.Based.{received_counts}
 use Rattle.order_check.specs.StandsFor.{StandsFor}
 use Rattle.log_text.specs.declared.commands.Command.{Command}
-use Rattle.log_text.specs.declared.commands.Command.TheVariants.{Start, StartIsolated, Offer, Join, Close, Begin, Finish, Round, BeginSearch, Collect, Skip, Truncate, Rebuild, Show, Resume, Marks, MarksBegun, Last, Resumed, Save, Answer}
+use Rattle.log_text.specs.declared.commands.Command.TheVariants.{Start, StartIsolated, StartStrict, Offer, OfferTimed, Join, Close, Begin, Finish, Round, BeginSearch, Collect, Skip, Truncate, Rebuild, Show, Resume, Marks, MarksBegun, Last, Resumed, Save, Answer}
 use Rattle.log_text.specs.declared.replies.Reply.{Reply}
 use Rattle.log_text.specs.declared.replies.Reply.TheVariants as told
 use Rattle.log_text.specs.declared.searches.Search.{Search}
@@ -25,6 +25,7 @@ use Rattle.round_state.specs.Opening.{IsSessions, fresh, fresh_state}
 use Rattle.round_state.specs.Legal.{State}
 use Rattle.round_state.specs.Runs.{Holds, StepsLegally}
 use Rattle.round_state.specs.Steps.{StepsTo}
+use Rattle.round_state.specs.declared.reports.Report.{Report}
 use Rattle.round_state.specs.declared.steps.Step.{Step}
 use Rattle.round_state.specs.declared.steps.Step.TheVariants as step
 use Rattle.round_state.specs.declared.steps.StepReply.{StepReply}
@@ -33,11 +34,13 @@ use Rattle.log_text.specs.declared.commands.Effort.{Effort}
 use Rattle.isolation_scripts.specs.Handed.{HaveHalves, CanBeHanded, half_command, half_marks}
 use Rattle.isolation_scripts.specs.Isolated.{isolated_of}
 use Rattle.isolation_scripts.specs.Splitting.{CanBeAsked, IsAskedFault, split_command}
+use Rattle.strict_offers.specs.Offers.{OfferedState, IsRoundRefusal, nothing_offered, one_round_more, strict_parts}
 use Rattle.cobra.specs.Audits.{AuditState, unsearched}
 use Rattle.cobra.specs.HandOver.{AreOfSessions, AreGoodParts, IsHandRefusal, IsMarksRefusal, IsNextOffer, IsResumedRefusal, handed_first, handed_offer, handed_parts, handed_writers}
 use Rattle.cobra.specs.Saving.{saved_told}
 use Rattle.cobra.specs.Searches.{IsSearched}
-use Rattle.cobra.specs.StepReplies.{claim_of, reply_of}
+use Rattle.cobra.specs.StepReplies.{claim_of, reply_of, report_of}
+use Rattle.cobra.specs.Strict.{OffersStrictly, OffersTimed}
 use Rattle.cobra.specs.declared.handing.Handing.{Handing}
 use Rattle.cobra.specs.declared.stages.Stage.{Stage}
 use Rattle.cobra.specs.declared.stages.Stage.TheVariants as stage
@@ -143,6 +146,20 @@ AnswersIsolated version old command answer new =
     ((refusal : Refusal) × IsAskedFault (most_sessions version) command refusal × (answer ≡ told.No refusal) × (new ≡ old))
     ⊎ (CanBeAsked (most_sessions version) command × (inner : Reply) × AnswersBeside version old (split_command command) inner new × (answer ≡ isolated_of inner))
 
+-- A round over all that was offered with its times is made by an engine that has it rewritten and nothing else; its report has the script's number.
+abbrev pub RoundsStrictly : OfferedState → Search → ℕ → ℕ → ℕ → Reply → OfferedState → Type 0
+RoundsStrictly old search budget depth workers answer new =
+    ((refusal : Refusal) × IsRoundRefusal old refusal × (answer ≡ told.No refusal) × (new ≡ old))
+    ⊎ ((report : Report) × (after : EngineState) × IsRound (engine_over (strict_parts old)) search budget depth workers (reply.Report report) after
+    × (old.rounds < 2 ^ 48 - 1) × (answer ≡ report_of (record report { round = old.rounds + 1 })) × (new ≡ one_round_more old))
+
+-- The reply to a command of a script that is asked for strict serializability. It takes offers, with their times or without, and makes whole rounds.
+abbrev pub AnswersStrict : Version → OfferedState → Command → Reply → OfferedState → Type 0
+AnswersStrict version old (Offer logged) answer new = IsTakenIn version logged old answer new (OffersStrictly old logged [] answer new)
+AnswersStrict version old (OfferTimed logged began ended) answer new = IsTakenIn version logged old answer new (OffersTimed old logged began ended answer new)
+AnswersStrict version old (Round budget depth workers search) answer new = RoundsStrictly old search budget depth workers answer new
+AnswersStrict version old command answer new = IsBadLine old answer new
+
 -- so many transactions may be let remain, where at most this many may
 abbrev pub IsLimitWithin : ℕ → ℕ → Type 0
 IsLimitWithin most limit = (1 ≤ limit) × (limit ≤ most)
@@ -187,6 +204,12 @@ OpensIsolated sessions limit version told.Done begun = AreVersionSessions versio
 OpensIsolated sessions limit version (told.No refusal) begun = IsIsolatedRefusal version sessions limit refusal × (begun ≡ None)
 OpensIsolated sessions limit version answer begun = ⊥
 
+-- One begins that is asked for strict serializability: nothing was offered yet, and at most so many transactions may be.
+abbrev pub OpensStrict : ℕ → ℕ → Version → Reply → Option Stage → Type 0
+OpensStrict sessions limit version told.Done begun = AreVersionSessions version sessions × IsVersionLimit version limit × (begun ≡ Some (stage.Strict (nothing_offered (most_sessions version) sessions limit) version))
+OpensStrict sessions limit version (told.No refusal) begun = IsVersionRefusal version sessions limit refusal × (begun ≡ None)
+OpensStrict sessions limit version answer begun = ⊥
+
 -- A hand-over begins, where an engine may be opened: of parts with room for two of each, where transactions are split.
 abbrev pub Resumes : ℕ → ℕ → Opening → Reply → Option Stage → Type 0
 Resumes sessions limit (Ordered version) told.Done begun = AreVersionSessions version sessions × IsVersionLimit version limit × (begun ≡ Some (stage.Resuming sessions limit (Ordered version)))
@@ -199,6 +222,7 @@ Resumes sessions limit opening answer begun = ⊥
 abbrev pub AnswersFirst : Command → Reply → Option Stage → Type 0
 AnswersFirst (Start sessions limit version) answer begun = Opens sessions limit version answer begun
 AnswersFirst (StartIsolated sessions limit version) answer begun = OpensIsolated sessions limit version answer begun
+AnswersFirst (StartStrict sessions limit version) answer begun = OpensStrict sessions limit version answer begun
 AnswersFirst (Resume sessions limit opening) answer begun = Resumes sessions limit opening answer begun
 AnswersFirst command answer begun = (answer ≡ told.No BadLine) × (begun ≡ None)
 
@@ -291,3 +315,4 @@ Answers (stage.Resuming sessions limit opening) command answer new = AnswersResu
 Answers (stage.Handing handed opening) command answer new = AnswersHanding handed opening command answer new
 Answers (stage.Open old version) command answer new = (audit : AuditState) × AnswersBeside version old command answer audit × (new ≡ stage.Open audit version)
 Answers (stage.Isolated old version) command answer new = (audit : AuditState) × AnswersIsolated version old command answer audit × (new ≡ stage.Isolated audit version)
+Answers (stage.Strict old version) command answer new = (after : OfferedState) × AnswersStrict version old command answer after × (new ≡ stage.Strict after version)

@@ -2,7 +2,7 @@
 ghost use Rattle.std.specs.Prelude.{◌≡◌, ◌≢◌, IfErr, OnOk};
 ghost use Rattle.txn.specs.declared.refusals.Refusal.{Refusal};
 ghost use Rattle.round_state.specs.Opening.{IsSessions};
-ghost use Rattle.cobra.specs.Scripts.{AreVersionSessions, IsLimitWithin, IsBeginningRefusal, IsIsolatedLimit, IsIsolatedRefusal, IsVersionLimit, IsVersionRefusal, Opens, OpensIsolated, Resumes, AnswersFirst, BeginsAnew};
+ghost use Rattle.cobra.specs.Scripts.{AreVersionSessions, IsLimitWithin, IsBeginningRefusal, IsIsolatedLimit, IsIsolatedRefusal, IsVersionLimit, IsVersionRefusal, Opens, OpensIsolated, OpensStrict, Resumes, AnswersFirst, BeginsAnew};
 ghost use Rattle.cobra.specs.declared.stages.Stage.{Stage};
 ghost use Rattle.log_text.specs.declared.versions.Opening.{Opening};
 
@@ -12,6 +12,7 @@ use crate::stages::Stage;
 use log_text::{Command, Opening, Reply, Version};
 use round_state::is_sessions;
 use std::alloc::Global;
+use strict_offers::Offered;
 use txn::Refusal;
 
 /// Whether a script may begin with these numbers, where there may be at most so many sessions, and at most so many transactions may be let remain.
@@ -93,6 +94,19 @@ fn open_isolated(
     }
 }
 
+/// Opens a script that is asked for strict serializability.
+fn open_strict(alloc: Global, sessions: u64, limit: u64, version: Version) -> (Reply, Option<Stage>)
+    ensures { OpensStrict sessions limit version result.0 result.1 }
+{
+    if let Err(refusal) = may_begin_ordered(version, sessions, limit) {
+        return (Reply::No(refusal), None);
+    }
+    match Offered::open(alloc, version.most_sessions(), sessions, limit) {
+        Ok(offered) => (Reply::Done, Some(Stage::Strict { offered, version })),
+        Err(_) => (Reply::No(Refusal::NoMemory), None),
+    }
+}
+
 fn begin_ordered(sessions: u64, limit: u64, version: Version) -> (Reply, Option<Stage>)
     ensures { Resumes sessions limit (Opening.Ordered version) result.0 result.1 }
 {
@@ -146,6 +160,11 @@ pub(crate) fn answer_first(alloc: Global, command: Command) -> (Reply, Option<St
             limit,
             version,
         } => open_isolated(alloc, sessions, limit, version),
+        Command::StartStrict {
+            sessions,
+            limit,
+            version,
+        } => open_strict(alloc, sessions, limit, version),
         Command::Resume {
             sessions,
             limit,

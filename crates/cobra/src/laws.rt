@@ -1,6 +1,7 @@
 //! Laws of scripts. The functions do nothing.
 ghost use Rattle.cobra.specs.Limits.{BoundsStay};
 ghost use Rattle.cobra.specs.SplitStages.{IsolatedStays};
+ghost use Rattle.cobra.specs.StrictReports.{EachStrictReportIsTrue};
 ghost use Rattle.cobra.specs.TrueReports.{EachReportIsTrue};
 
 use engine_pasts::{
@@ -12,6 +13,8 @@ use isolation_scripts::{
     committed_are_of_commits, fresh_engines_are_split, halved_counts_are_whole, nothing_is_split,
     split_engines_stay, split_steps_are_legal, split_steps_follow,
 };
+use strict_offers::offers_stay_good;
+use strict_rounds::right_reports_are_strict;
 use whole_orders::{
     fresh_engines_go_on, left_parts_go_on, reported_orders_end_orders, steps_go_on,
 };
@@ -40,6 +43,16 @@ pub fn each_report_is_true()
     steps_hold_behind();
     reported_orders_stand_behind();
     halves_are_told_behind();
+}
+
+/// Whatever `serve` may leave, each report in it that is asked for strict serializability is true of everything that the script's lines had offered
+/// with its times and that was answered ok before.
+pub fn each_strict_report_is_true()
+    ensures { EachStrictReportIsTrue }
+{
+    // Laws that the proof cites. They do nothing when they run.
+    offers_stay_good();
+    right_reports_are_strict();
 }
 
 /// A script keeps the bounds of its version: how many sessions there may be, and how many transactions may remain.

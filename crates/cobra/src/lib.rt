@@ -18,6 +18,7 @@ mod searches;
 mod serving;
 mod showing;
 mod stages;
+mod strict;
 
 pub use background_search::Solvers;
 pub use beginnings::{may_begin_isolated, may_begin_ordered};
@@ -26,7 +27,7 @@ pub use byte_lines::{
     MemorySource, Next, Pace, ReaderSource, StandardInput, StandardOutput, WriterSink, write_all,
 };
 pub use handing::Handing;
-pub use laws::{bounds_stay, each_report_is_true, isolated_stays};
+pub use laws::{bounds_stay, each_report_is_true, each_strict_report_is_true, isolated_stays};
 pub use means::Means;
 pub use programs::{Asked, asked_in, asked_of, exit_of, tell};
 pub use replies::{claim_of, cut_of, reply_of, report_of};

@@ -16,6 +16,7 @@ use crate::resuming::{answer_handing, answer_resuming};
 use crate::saving::saved_told;
 use crate::showing::state_told;
 use crate::stages::Stage;
+use crate::strict::answer_strict;
 use background_search::{Effort, Solvers};
 use byte_lines::Next;
 use isolation_scripts::{isolated_of, split_command};
@@ -191,6 +192,8 @@ fn answer_open<'s, E, R: Threads, P: PlainSolver + Sync, S: Solver + Sync>(
         Command::Save(wanted) => saved_told(alloc, audit.engine(), wanted),
         Command::Start { .. }
         | Command::StartIsolated { .. }
+        | Command::StartStrict { .. }
+        | Command::OfferTimed { .. }
         | Command::Resume { .. }
         | Command::Marks { .. }
         | Command::MarksBegun { .. }
@@ -249,6 +252,11 @@ fn answered<'s, E, R: Threads, P: PlainSolver + Sync, S: Solver + Sync>(
             let mut audit = audit;
             let reply = answer_isolated(&mut audit, means, version, command)?;
             Ok((reply, Stage::Isolated { audit, version }))
+        }
+        Stage::Strict { offered, version } => {
+            let mut offered = offered;
+            let reply = answer_strict(&mut offered, means, version, command)?;
+            Ok((reply, Stage::Strict { offered, version }))
         }
     }
 }

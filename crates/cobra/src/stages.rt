@@ -4,6 +4,7 @@ ghost use Rattle.cobra.specs.Held.{IsHanding, IsEnough};
 use crate::audits::Audit;
 use crate::handing::Handing;
 use log_text::{Opening, Version};
+use strict_offers::Offered;
 
 /// One more than a fragment may have.
 const TOO_MANY: usize = 257;
@@ -33,6 +34,11 @@ pub(crate) enum Stage {
     /// An engine is open whose transactions are split, for lines of this version that ask for snapshot isolation.
     Isolated {
         audit: Audit,
+        version: Version,
+    },
+    /// What is offered with its times is taken, for lines of this version that ask for strict serializability.
+    Strict {
+        offered: Offered,
         version: Version,
     },
 }

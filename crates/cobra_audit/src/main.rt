@@ -51,7 +51,8 @@ out (resume).
 A script that begins with ["open",1,8,2] is of version 2: in it a transaction that aborted is offered
 with what it tried, as [[],[5],"aborted"], and a read from it is reported. With 3 in place of 2 there
 may be 256 sessions and a million transactions at a time, and with "snapshot" behind the number the
-question is whether the store kept snapshot isolation.
+question is whether the store kept snapshot isolation; with "strict", whether it was strictly
+serializable, by the times that offers have.
 
 The exit status is 0 at the end of the script, whatever was reported; 1 if a device failed or memory
 ran out (standard error says which); 2 for other arguments.

@@ -8,7 +8,7 @@ use Rattle.log_text.specs.Commands.{source_in, aborted_in, effort_in, waits_in, 
 use Rattle.log_text.specs.Refutations.{choice_in, ends_in}
 use Rattle.log_text.specs.Searches.{search_in}
 use Rattle.log_text.specs.Shown.{Reports}
-use Rattle.log_text.specs.Versions.{version_in, opening_in}
+use Rattle.log_text.specs.Versions.{version_in, opening_in, strict_in}
 use Rattle.log_text.specs.declared.versions.Opening.TheVariants.{Ordered}
 use Rattle.log_text.specs.declared.shown.Shown.{Shown}
 
@@ -45,6 +45,12 @@ pub version_none : (vs : List Value) → length vs ≢ 0 → length vs ≢ 1 →
 version_none [] none one = absurd (omega (arith, none))
 version_none (a ∷ []) none one = absurd (omega (arith, one))
 version_none (a ∷ b ∷ vs) none one = refl
+
+pub strict_none : (vs : List Value) → length vs ≢ 2 → None ≡ strict_in (items_view vs)
+strict_none [] other = refl
+strict_none (a ∷ []) other = refl
+strict_none (a ∷ b ∷ []) other = absurd (omega (arith, other))
+strict_none (a ∷ b ∷ c ∷ vs) other = refl
 
 -- where there are other than two, they are those of a version
 pub ordered_else : (vs : List Value) → length vs ≢ 2 → option_map Ordered (version_in (items_view vs)) ≡ opening_in (items_view vs)

@@ -9,7 +9,8 @@ use Rattle.log_text.specs.Numbers.{whole_number, if_within, number_within, sessi
 use Rattle.log_text.specs.Refutations.{id_at, choice_in, ends_in, keyed_ends_in, arc_named, arc_in, reader_in}
 use Rattle.log_text.specs.Searches.{search_in, search_of}
 use Rattle.log_text.specs.Streams.{is_atom, is_few, TakesFew}
-use Rattle.log_text.specs.Versions.{version_in, version_numbered, promise_of, opening_in}
+use Rattle.log_text.specs.Versions.{version_in, version_numbered, promise_of, opening_in, promise_or, promise_in, strict_in, strict_of}
+use Rattle.log_text.specs.declared.versions.Opening.{Opening}
 use Rattle.log_text.specs.declared.versions.Version.{Version}
 use Rattle.log_text.specs.declared.commands.Command.TheVariants.{Begin, Skip, Truncate, Rebuild, Show, Resumed}
 
@@ -196,10 +197,36 @@ opening_few (item a no_items) there = (within_atom 2 3 a (map_there _ (number_wi
 opening_few (item a (item b no_items)) there = (within_atom 2 3 a (then_there _ (number_within 2 3 a) there), (promised_atom (number_within 2 3 a) b there, tt))
 opening_few (item a (item b (item c rest))) never = absurd never
 
+strict_atom : (version : Version) (given : Data) → IsThere (strict_of given version) → IsAtom given
+strict_atom version null never = absurd never
+strict_atom version (boolean b) never = absurd never
+strict_atom version (number n) never = absurd never
+strict_atom version (string word) there = tt
+strict_atom version (array items) never = absurd never
+strict_atom version (object ms) never = absurd never
+
+strict_by_atom : (found : Option ℕ) (given : Data) → IsThere (option_and_then (λ n. strict_of given (version_numbered n)) found) → IsAtom given
+strict_by_atom None given never = absurd never
+strict_by_atom (Some n) given there = strict_atom (version_numbered n) given there
+
+strict_few : (given : Items) → IsThere (strict_in given) → AreFewAtoms 2 given
+strict_few no_items never = absurd never
+strict_few (item a no_items) never = absurd never
+strict_few (item a (item b no_items)) there = (within_atom 2 3 a (then_there _ (number_within 2 3 a) there), (strict_by_atom (number_within 2 3 a) b there, tt))
+strict_few (item a (item b (item c rest))) never = absurd never
+
+either_there : (P : Type 0) (strict : Option Version) (opening : Option Opening) → (IsThere strict → P) → (IsThere opening → P) → IsThere (promise_or strict opening) → P
+either_there P None None by or never = absurd never
+either_there P None (Some opening) by or there = or tt
+either_there P (Some version) opening by or there = by tt
+
+promise_few : (given : Items) → IsThere (promise_in given) → AreFewAtoms 2 given
+promise_few given there = either_there (AreFewAtoms 2 given) (strict_in given) (opening_in given) (strict_few given) (opening_few given) there
+
 start_few : (given : Items) → IsThere (start_in given) → AreFewAtoms 4 given
 start_few no_items never = absurd never
 start_few (item a no_items) never = absurd never
-start_few (item a (item b rest)) there = let all = three_there _ (whole_number a) (whole_number b) (opening_in rest) there in (number_atom a all.0, (number_atom b all.1, opening_few rest all.2))
+start_few (item a (item b rest)) there = let all = three_there _ (whole_number a) (whole_number b) (promise_in rest) there in (number_atom a all.0, (number_atom b all.1, promise_few rest all.2))
 
 pub start_takes_few : TakesFew 4 start_in
 start_takes_few = of_few 4 start_in start_few

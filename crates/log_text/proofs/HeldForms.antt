@@ -9,16 +9,17 @@ use Rattle.txn.specs.declared.transactions.Txn.{Txn}
 use Rattle.logged_fragments.specs.declared.logged.LoggedFragment.{LoggedFragment}
 use Rattle.log_text.specs.Items.{alone, one_item, two_items, three_items, with_both, with_three, list_of, each_of}
 use Rattle.log_text.specs.Numbers.{whole_number, session_of}
-use Rattle.log_text.specs.Commands.{txn_of, fragment_of, offer_in, join_in, start_of, start_in, resume_in, effort_in, waits_in, begun_in, closed_in, marks_in, last_in, flag_of, writer_of, save_in, command_named}
+use Rattle.log_text.specs.Commands.{txn_of, fragment_of, offer_in, times_in, join_in, start_of, start_in, resume_in, effort_in, waits_in, begun_in, closed_in, marks_in, last_in, flag_of, writer_of, save_in, command_named}
 use Rattle.log_text.specs.Held.{held}
-use Rattle.log_text.specs.Kept.{kept, txns_of, made, behind_of, joined_by, joined_within}
+use Rattle.log_text.specs.Kept.{kept, txns_of, made, offered_within, behind_of, joined_by, joined_within}
 use Rattle.log_text.specs.Lines.{plain_named}
 use Rattle.log_text.specs.Streams.{AreRead}
-use Rattle.log_text.specs.Versions.{opening_in}
-use Rattle.log_text.specs.declared.versions.Opening.{Opening}
+use Rattle.log_text.specs.Versions.{opening_in, promise_in}
 use Rattle.log_text.specs.declared.versions.Opening.TheVariants.{Ordered, Isolated}
+use Rattle.log_text.specs.declared.versions.Promise.{Promise}
+use Rattle.log_text.specs.declared.versions.Promise.TheVariants.{Resumable, Strict}
 use Rattle.log_text.specs.declared.commands.Command.{Command}
-use Rattle.log_text.specs.declared.commands.Command.TheVariants.{Offer, Join, Resume, MarksBegun, Last}
+use Rattle.log_text.specs.declared.commands.Command.TheVariants.{Offer, OfferTimed, Join, Resume, MarksBegun, Last}
 use Rattle.log_text.specs.declared.fragments.Behind.{Behind}
 use Rattle.log_text.specs.declared.fragments.Behind.TheVariants.{First, Txns}
 use Rattle.log_text.proofs.TokensRead.{are_read, are_read_map, same_form, deeper_items}
@@ -29,24 +30,47 @@ offer_made : (most : Option ℕ) (session first : ℕ) (told : List (Txn × Bool
 offer_made None session first told = refl
 offer_made (Some n) session first told = refl
 
-offer_parts : (most : Option ℕ) (s f : Option ℕ) (told : Option (List (Txn × Bool))) → option_map (held most) (option_map Offer (with_three fragment_of s f told)) ≡ option_map Offer (with_three made s f (option_map (kept most) told))
-offer_parts most None f told = refl
-offer_parts most (Some s) None told = refl
-offer_parts most (Some s) (Some f) None = refl
-offer_parts most (Some s) (Some f) (Some told) = ap Some (offer_made most s f told)
+-- its times behind it
+times_held : (most : Option ℕ) (logged other : LoggedFragment) → held most (Offer logged) ≡ Offer other → ((began ended : List ℕ) → held most (OfferTimed logged began ended) ≡ OfferTimed other began ended) → (behind : Items) → option_map (held most) (times_in logged behind) ≡ times_in other behind
+times_held most logged other alone timed no_items = ap Some alone
+times_held most logged other alone timed (item b no_items) = refl
+times_held most logged other alone timed (item b (item e no_items)) = both (list_of whole_number b) (list_of whole_number e)
+  where
+    both : (began ended : Option (List ℕ)) → option_map (held most) (with_both (OfferTimed logged) began ended) ≡ with_both (OfferTimed other) began ended
+    both None None = refl
+    both None (Some ended) = refl
+    both (Some began) None = refl
+    both (Some began) (Some ended) = ap Some (timed began ended)
+times_held most logged other alone timed (item b (item e (item x rest))) = refl
 
-offer_held : (most : Option ℕ) (parts : Items) → option_map (held most) (offer_in parts) ≡ option_map Offer (three_items made session_of whole_number (txns_of most) parts)
+timed_made : (most : Option ℕ) (session first : ℕ) (told : List (Txn × Bool)) (began ended : List ℕ) → held most (OfferTimed (fragment_of session first told) began ended) ≡ OfferTimed (made session first (kept most told)) began ended
+timed_made None session first told began ended = refl
+timed_made (Some n) session first told began ended = refl
+
+offer_parts : (most : Option ℕ) (s f : Option ℕ) (told : Option (List (Txn × Bool))) (behind : Items)
+    → option_map (held most) (option_and_then (λ logged. times_in logged behind) (with_three fragment_of s f told))
+    ≡ option_and_then (λ s. option_and_then (λ f. option_and_then (λ kept. times_in (made s f kept) behind) (option_map (kept most) told)) f) s
+offer_parts most None f told behind = refl
+offer_parts most (Some s) None told behind = refl
+offer_parts most (Some s) (Some f) None behind = refl
+offer_parts most (Some s) (Some f) (Some told) behind = times_held most (fragment_of s f told) (made s f (kept most told)) (offer_made most s f told) (timed_made most s f told) behind
+
+never : {A X : Type 0} (o : Option A) → None ≡ option_and_then {U = X} (λ a. None) o
+never None = refl
+never (Some a) = refl
+
+never_both : {A B X : Type 0} (o : Option A) (p : Option B) → None ≡ option_and_then {U = X} (λ a. option_and_then {U = X} (λ b. None) p) o
+never_both None p = refl
+never_both (Some a) p = never p
+
+offer_held : (most : Option ℕ) (parts : Items) → option_map (held most) (offer_in parts) ≡ offered_within most parts
 offer_held most no_items = refl
-offer_held most (item a no_items) = refl
-offer_held most (item a (item b no_items)) = refl
-offer_held most (item a (item b (item c no_items))) = offer_parts most (session_of a) (whole_number b) (list_of txn_of c)
-offer_held most (item a (item b (item c (item d rest)))) = refl
+offer_held most (item a no_items) = never (session_of a)
+offer_held most (item a (item b no_items)) = never_both (session_of a) (whole_number b)
+offer_held most (item a (item b (item c behind))) = offer_parts most (session_of a) (whole_number b) (list_of txn_of c) behind
 
-pub offer_read : (most : Option ℕ) (old new : List Token) (found : Option LoggedFragment) (given : Option Command) → AreRead (three_items made session_of whole_number (txns_of most)) 4 old found new → given ≡ option_map Offer found → AreRead (λ parts. option_map (held most) (offer_in parts)) 4 old given new
-offer_read most old new found given read is =
-    are_read (λ parts. option_map (held most) (offer_in parts)) 4 old new (option_map Offer found) given (sym is)
-    (same_form (λ parts. option_map (held most) (offer_in parts)) (λ parts. option_map Offer (three_items made session_of whole_number (txns_of most) parts)) 4 old new (option_map Offer found) (offer_held most)
-    (are_read_map Offer (three_items made session_of whole_number (txns_of most)) 4 old new found read))
+pub offer_read : (most : Option ℕ) (old new : List Token) (found : Option Command) → AreRead (offered_within most) 4 old found new → AreRead (λ parts. option_map (held most) (offer_in parts)) 4 old found new
+offer_read most old new found read = same_form (λ parts. option_map (held most) (offer_in parts)) (offered_within most) 4 old new found (offer_held most) read
 
 -- ---- joins
 
@@ -161,14 +185,15 @@ module _ (n : ℕ) where
   alone_kept command same no_items = ap Some same
   alone_kept command same (item a rest) = refl
 
-  start_same : (sessions limit : ℕ) (opening : Opening) → held (Some n) (start_of sessions limit opening) ≡ start_of sessions limit opening
-  start_same sessions limit (Ordered version) = refl
-  start_same sessions limit (Isolated version) = refl
+  start_same : (sessions limit : ℕ) (promise : Promise) → held (Some n) (start_of sessions limit promise) ≡ start_of sessions limit promise
+  start_same sessions limit (Resumable (Ordered version)) = refl
+  start_same sessions limit (Resumable (Isolated version)) = refl
+  start_same sessions limit (Strict version) = refl
 
   start_kept : (parts : Items) → IsKept (start_in parts)
   start_kept no_items = refl
   start_kept (item a no_items) = refl
-  start_kept (item a (item b behind)) = kept_three start_of start_same (whole_number a) (whole_number b) (opening_in behind)
+  start_kept (item a (item b behind)) = kept_three start_of start_same (whole_number a) (whole_number b) (promise_in behind)
 
   resume_kept : (parts : Items) → IsKept (resume_in parts)
   resume_kept no_items = refl

@@ -10,6 +10,7 @@ pub mod LinesRead
 pub mod MarksRead
 pub mod NumbersRead
 pub mod OwedRead
+pub mod OffersRead
 pub mod RepliesSaid
 pub mod ReportsRead
 pub mod SameTrees

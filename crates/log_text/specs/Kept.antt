@@ -1,11 +1,12 @@
 -- For private clauses: what is kept of the transactions of a line while they are read.
 use Rattle.std.specs.Prelude.{ℕ, List, [], ◌∷◌, ◌++◌, length, take, nat_lt, Bool, true, Option, Some, None, option_map, option_and_then, if◌then◌else◌}
-use Rattle.serde_json.specs.Data.{Data, number, unsigned, array, Items, item}
+use Rattle.serde_json.specs.Data.{Data, number, unsigned, array, Items, item, no_items}
 use Rattle.txn.specs.declared.transactions.Txn.{Txn}
 use Rattle.logged_fragments.specs.declared.logged.LoggedFragment.{LoggedFragment}
 use Rattle.log_text.specs.Items.{list_of, each_of, alone, one_item}
-use Rattle.log_text.specs.Numbers.{session_of}
-use Rattle.log_text.specs.Commands.{txn_of, both_lists}
+use Rattle.log_text.specs.Numbers.{session_of, whole_number}
+use Rattle.log_text.specs.Commands.{txn_of, both_lists, times_in}
+use Rattle.log_text.specs.declared.commands.Command.{Command}
 use Rattle.log_text.specs.declared.fragments.Behind.{Behind}
 use Rattle.log_text.specs.declared.fragments.Behind.TheVariants.{First, Txns}
 
@@ -50,3 +51,18 @@ joined_by most session (Txns txns aborted) given = alone (made session 0 (txns, 
 abbrev pub joined_within : Option ℕ → Items → Option LoggedFragment
 joined_within most (item session (item behind rest)) = option_and_then (λ s. option_and_then (λ b. joined_by most s b rest) (behind_of most behind)) (session_of session)
 joined_within most given = None
+
+-- what ends an offer, behind its session and the number of its first transaction
+abbrev pub offered_from : Option ℕ → ℕ → ℕ → Items → Option Command
+offered_from most session first (item txns behind) = option_and_then (λ told. times_in (made session first told) behind) (txns_of most txns)
+offered_from most session first no_items = None
+
+-- behind its session
+abbrev pub offered_behind : Option ℕ → ℕ → Items → Option Command
+offered_behind most session (item first rest) = option_and_then (λ f. offered_from most session f rest) (whole_number first)
+offered_behind most session no_items = None
+
+-- session,first,[txn,..], or with [began,..],[ended,..] behind
+abbrev pub offered_within : Option ℕ → Items → Option Command
+offered_within most (item session rest) = option_and_then (λ s. offered_behind most s rest) (session_of session)
+offered_within most no_items = None

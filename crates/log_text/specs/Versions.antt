@@ -8,6 +8,8 @@ use Rattle.log_text.specs.declared.versions.Version.TheVariants.{One, Two, Three
 use Rattle.log_text.specs.Numbers.{number_within}
 use Rattle.log_text.specs.declared.versions.Opening.{Opening}
 use Rattle.log_text.specs.declared.versions.Opening.TheVariants.{Ordered, Isolated}
+use Rattle.log_text.specs.declared.versions.Promise.{Promise}
+use Rattle.log_text.specs.declared.versions.Promise.TheVariants.{Resumable, Strict}
 
 -- In a script of version 1 no transaction is told to have aborted; in one of another version each may be.
 abbrev pub has_form : Version → LoggedFragment → Bool
@@ -53,3 +55,22 @@ promise_of given version = None
 abbrev pub opening_in : Items → Option Opening
 opening_in (item version (item promise no_items)) = option_and_then (λ n. promise_of promise (version_numbered n)) (number_within 2 3 version)
 opening_in behind = option_map Ordered (version_in behind)
+
+-- this version, where "strict" is given
+abbrev pub strict_of : Data → Version → Option Version
+strict_of (string word) version = if bytes_eq word (codes "strict") then Some version else None
+strict_of given version = None
+
+-- 2 or 3 and "strict": lines of that version
+abbrev pub strict_in : Items → Option Version
+strict_in (item version (item promise no_items)) = option_and_then (λ n. strict_of promise (version_numbered n)) (number_within 2 3 version)
+strict_in behind = None
+
+-- strict serializability in lines of this version, where one is given; else what a script that resumes another may be opened for
+abbrev pub promise_or : Option Version → Option Opening → Option Promise
+promise_or (Some version) opening = Some (Strict version)
+promise_or None opening = option_map Resumable opening
+
+-- What a script may be opened for that resumes no other, by what stands behind the numbers of its first line.
+abbrev pub promise_in : Items → Option Promise
+promise_in behind = promise_or (strict_in behind) (opening_in behind)

@@ -10,7 +10,7 @@ ghost use Rattle.log_text.specs.Commands.{start_of, start_in, close_in, effort_i
 use crate::numbers::{number_within, session_of, whole_number};
 use crate::searches::{Search, search_in};
 use crate::shown::Shown;
-use crate::versions::{Opening, Version, opening_in};
+use crate::versions::{Opening, Promise, Version, opening_in, promise_in};
 use logged_fragments::LoggedFragment;
 use serde_json::Value;
 use txn::{Sequence, TxnId};
@@ -36,8 +36,20 @@ pub enum Command {
         limit: u64,
         version: Version,
     },
+    /// To open a script that is asked for strict serializability of all that it offers, by lines of this version.
+    StartStrict {
+        sessions: u64,
+        limit: u64,
+        version: Version,
+    },
     /// To take a fragment: it has a flag for each of its transactions, whether it is told to have aborted.
     Offer(LoggedFragment),
+    /// To take one, with when each of its transactions began and when it ended.
+    OfferTimed {
+        logged: LoggedFragment,
+        began: Sequence<u64>,
+        ended: Sequence<u64>,
+    },
     /// To let a session join with a fragment, or come back with it.
     Join(LoggedFragment),
     /// To close a session.
@@ -136,17 +148,22 @@ fn alone(command: Command, parts: &[Value]) -> Option<Command>
     }
 }
 
-fn start_of(sessions: u64, limit: u64, opening: Opening) -> Command
-    ensures form { result ≡ start_of sessions limit opening }
+fn start_of(sessions: u64, limit: u64, promise: Promise) -> Command
+    ensures form { result ≡ start_of sessions limit promise }
     ensures limits { HasLimits result }
 {
-    match opening {
-        Opening::Ordered(version) => Command::Start {
+    match promise {
+        Promise::Resumable(Opening::Ordered(version)) => Command::Start {
             sessions,
             limit,
             version,
         },
-        Opening::Isolated(version) => Command::StartIsolated {
+        Promise::Resumable(Opening::Isolated(version)) => Command::StartIsolated {
+            sessions,
+            limit,
+            version,
+        },
+        Promise::Strict(version) => Command::StartStrict {
             sessions,
             limit,
             version,
@@ -163,8 +180,8 @@ fn start_in(parts: &[Value]) -> Option<Command>
         [sessions, limit, behind @ ..] => {
             let sessions = whole_number(sessions)?;
             let limit = whole_number(limit)?;
-            let opening = opening_in(behind)?;
-            Some(start_of(sessions, limit, opening))
+            let promise = promise_in(behind)?;
+            Some(start_of(sessions, limit, promise))
         }
         _ => None,
     }

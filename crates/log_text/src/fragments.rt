@@ -1,7 +1,7 @@
 //! The fragment that an offer or a join has, read token by token.
 ghost use Rattle.std.specs.Prelude.{◌≡◌, IfOk, OnOk, option_map};
 ghost use Rattle.serde_json.specs.View.{view, items_view};
-ghost use Rattle.log_text.specs.Items.{each_of, list_of, one_item, three_items};
+ghost use Rattle.log_text.specs.Items.{each_of, list_of, one_item};
 ghost use Rattle.log_text.specs.Numbers.{whole_number, session_of};
 ghost use Rattle.log_text.specs.Commands.{init_of, source_in, read_in, read_of, aborted_by, aborted_in, txn_in, txn_of};
 ghost use Rattle.log_text.specs.Streams.{IsRead, AreRead};
@@ -197,7 +197,8 @@ fn rest_of_txns(
     Ok(Some((Sequence::new(txns), Sequence::new(flags))))
 }
 
-fn list_of_txns(
+/// A list of transactions, and whether each of them aborted: the first so many are kept, and every flag.
+pub(crate) fn list_of_txns(
     alloc: Global,
     reader: &mut Reader<'_>,
     most: Option<usize>,
@@ -211,7 +212,12 @@ fn list_of_txns(
     }
 }
 
-fn made(session: u8, first: u64, txns: Sequence<Txn>, aborted: Sequence<bool>) -> LoggedFragment
+pub(crate) fn made(
+    session: u8,
+    first: u64,
+    txns: Sequence<Txn>,
+    aborted: Sequence<bool>,
+) -> LoggedFragment
     ensures { result ≡ made session first (txns, aborted) }
 {
     LoggedFragment {
@@ -241,22 +247,6 @@ fn fragment_from(
         Ok(Some(made(session, first, txns, aborted)))
     } else {
         Ok(None)
-    }
-}
-
-pub(crate) fn fragment(
-    alloc: Global,
-    reader: &mut Reader<'_>,
-    most: Option<usize>,
-) -> Result<Option<LoggedFragment>, NoMemory>
-    ensures { IfOk result (λ logged. AreRead (three_items made session_of whole_number (txns_of most)) 4 reader.old logged reader.new) }
-{
-    let Some(session) = session(reader) else {
-        return Ok(None);
-    };
-    match number(reader) {
-        Some(first) => fragment_from(alloc, reader, session, first, most),
-        None => Ok(None),
     }
 }
 

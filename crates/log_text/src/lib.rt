@@ -11,6 +11,7 @@ mod lines;
 mod lists;
 mod names;
 mod numbers;
+mod offers;
 mod replies;
 mod saved;
 mod searches;

@@ -1,6 +1,6 @@
 //! A line of a script is read token by token, by the name that stands first.
 ghost use Rattle.std.specs.Prelude.{◌≡◌, ◌⊎◌, IfOk, IfErr, IfSome, IsUtf8, option_map};
-ghost use Rattle.log_text.specs.Commands.{offer_in, join_in, begun_in, marks_in, last_in, command_named, IsCommand, HasLimits};
+ghost use Rattle.log_text.specs.Commands.{join_in, begun_in, marks_in, last_in, command_named, IsCommand, HasLimits};
 ghost use Rattle.log_text.specs.Held.{held};
 ghost use Rattle.log_text.specs.Lines.{plain_named, IsWhole, IsAnsweredWith, IsTextOf};
 ghost use Rattle.log_text.specs.Streams.{AreRead};
@@ -8,8 +8,9 @@ ghost use Rattle.log_text.specs.declared.commands.Command.{Command};
 
 use crate::answers::read_answer;
 use crate::commands::{Command, plain_named};
-use crate::fragments::{fragment, joined};
+use crate::fragments::joined;
 use crate::handed::{flags, writers};
+use crate::offers::offer;
 use crate::streams::{atoms, numbers, takes_array, word};
 use json::{Reader, Scratch};
 use std::alloc::Global;
@@ -24,20 +25,6 @@ fn plain(alloc: Global, reader: &mut Reader<'_>, name: &str) -> Result<Option<Co
 {
     match atoms(alloc, reader, MOST_PARTS)? {
         Some(parts) => Ok(plain_named(name, parts.as_slice())),
-        None => Ok(None),
-    }
-}
-
-fn offer(
-    alloc: Global,
-    reader: &mut Reader<'_>,
-    most: Option<usize>,
-) -> Result<Option<Command>, NoMemory>
-    ensures form { IfOk result (λ command. AreRead (λ parts. option_map (held most) (offer_in parts)) 4 reader.old command reader.new) }
-    ensures limits { IfOk result (λ command. IfSome command HasLimits) }
-{
-    match fragment(alloc, reader, most)? {
-        Some(logged) => Ok(Some(Command::Offer(logged))),
         None => Ok(None),
     }
 }

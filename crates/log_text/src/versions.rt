@@ -3,7 +3,7 @@ ghost use Rattle.log_text.specs.Numbers.{number_within};
 ghost use Rattle.std.specs.List.{list_any};
 ghost use Rattle.serde_json.specs.Data.{string};
 ghost use Rattle.serde_json.specs.View.{view, items_view};
-ghost use Rattle.log_text.specs.Versions.{greatest_limit, greatest_split_limit, has_form, most_sessions, opening_in, promise_of, version_in, version_numbered};
+ghost use Rattle.log_text.specs.Versions.{greatest_limit, greatest_split_limit, has_form, most_sessions, opening_in, promise_of, version_in, version_numbered, promise_in, strict_in, strict_of};
 
 use crate::numbers::number_within;
 use logged_fragments::LoggedFragment;
@@ -45,6 +45,15 @@ pub enum Opening {
     Ordered(Version),
     /// Whether it keeps snapshot isolation, by lines of this version, which is 2 or 3.
     Isolated(Version),
+}
+
+/// What a script may be opened for that resumes no other.
+#[derive(Clone, Copy, Debug, PartialEq, Eq)]
+pub(crate) enum Promise {
+    /// What one may be opened for that resumes another, too.
+    Resumable(Opening),
+    /// Whether some order explains all that was offered and keeps real time, by lines of this version, which is 2 or 3.
+    Strict(Version),
 }
 
 impl Version {
@@ -149,5 +158,49 @@ pub(crate) fn opening_in(behind: &[Value]) -> Option<Opening>
     match behind {
         [version, promise] => isolated_in(version, promise),
         _ => ordered_in(behind),
+    }
+}
+
+fn strict_named(word: &str, version: Version) -> Option<Version>
+    ensures { result ≡ strict_of (string word.now) version }
+{
+    if word == "strict" {
+        Some(version)
+    } else {
+        None
+    }
+}
+
+fn strict_of(value: &Value, version: Version) -> Option<Version>
+    ensures { result ≡ strict_of (view value.now) version }
+{
+    strict_named(value.as_str()?, version)
+}
+
+fn strict_by(version: &Value, promise: &Value) -> Option<Version>
+    ensures { result ≡ option_and_then (λ n. strict_of (view promise.now) (version_numbered n)) (number_within 2 3 (view version.now)) }
+{
+    let number = number_within(2, 3, version)?;
+    strict_of(promise, version_numbered(number))
+}
+
+#[tactic(auto, using(crate::proofs::Arity::strict_none))]
+fn strict_in(behind: &[Value]) -> Option<Version>
+    ensures { result ≡ strict_in (items_view behind.now) }
+{
+    match behind {
+        [version, promise] => strict_by(version, promise),
+        _ => None,
+    }
+}
+
+/// What a script may be opened for that resumes no other, by what stands behind the numbers of its first line: 2 or 3 and "strict", or what one may
+/// be opened for that resumes another.
+pub(crate) fn promise_in(behind: &[Value]) -> Option<Promise>
+    ensures { result ≡ promise_in (items_view behind.now) }
+{
+    match strict_in(behind) {
+        Some(version) => Some(Promise::Strict(version)),
+        None => Some(Promise::Resumable(opening_in(behind)?)),
     }
 }

@@ -57,6 +57,7 @@ use Rattle.report_checking.proofs.SaidOnce.{IsOne}
 takes_first : (asked : Command) → GivesFirst asked (told.No NoMemory) → OpensEngine asked
 takes_first (command.Start sessions limit lines) is = tt
 takes_first (command.StartIsolated sessions limit lines) is = tt
+takes_first (command.StartStrict sessions limit lines) is = is
 takes_first (command.Resume sessions limit lines) is = is
 takes_first asked is = other_refusal is
 
@@ -169,6 +170,7 @@ gives_first (command.Start sessions limit version) answer new is = absurd is
 gives_first (command.StartIsolated sessions limit version) told.Done new is = (is.0, is.1)
 gives_first (command.StartIsolated sessions limit version) (told.No refusal) new is = is.0
 gives_first (command.StartIsolated sessions limit version) answer new is = absurd is
+gives_first (command.StartStrict sessions limit version) answer new is = absurd is
 gives_first (command.Resume sessions limit opening) answer new is = absurd is
 gives_first asked answer new is = is.0
 

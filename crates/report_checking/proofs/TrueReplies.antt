@@ -3,7 +3,7 @@ use Rattle.std.proofs.Common.{◌≡◌, ℕ, ◌*◌, true, List, [], ◌++◌,
 use Rattle.txn.specs.declared.transactions.TxnId.{TxnId}
 use Rattle.txn.specs.History.{History}
 use Rattle.log_text.specs.declared.commands.Command.{Command}
-use Rattle.log_text.specs.declared.commands.Command.TheVariants.{Start, StartIsolated, Resume, Collect}
+use Rattle.log_text.specs.declared.commands.Command.TheVariants.{Start, StartIsolated, StartStrict, Resume, Collect}
 use Rattle.log_text.specs.declared.replies.Reply.{Reply}
 use Rattle.log_text.specs.declared.replies.Reply.TheVariants as told
 use Rattle.log_text.specs.declared.versions.Opening.{Opening}
@@ -73,6 +73,7 @@ first_stands laws (StartIsolated sessions limit version) told.Done new first =
     (nothing.1, nothing.1, subst (λ (history : History). HoldsBehind [] (fresh (most_sessions version) sessions (2 * limit)) history history) (sym nothing.0) (laws.fresh_behind (most_sessions version) sessions (2 * limit)))
 first_stands laws (StartIsolated sessions limit version) (told.No refusal) new first = subst (λ (script : Option ScriptState). Stands script []) (sym first.1) refl
 first_stands laws (StartIsolated sessions limit version) answer new first = absurd first
+first_stands laws (StartStrict sessions limit version) answer new first = absurd first
 first_stands laws (Resume sessions limit opening) answer new first = absurd first
 first_stands laws command answer new first = subst (λ (script : Option ScriptState). Stands script []) (sym first.1) refl
 

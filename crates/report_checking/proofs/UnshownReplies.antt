@@ -7,7 +7,7 @@ use Rattle.json.specs.Json.{value}
 use Rattle.order_check.specs.declared.remainder.Parts.{Parts}
 use Rattle.logged_fragments.specs.declared.logged.LoggedFragment.{LoggedFragment}
 use Rattle.log_text.specs.declared.commands.Command.{Command}
-use Rattle.log_text.specs.declared.commands.Command.TheVariants.{Offer, Join, Finish, Round, Collect, Resume, Save}
+use Rattle.log_text.specs.declared.commands.Command.TheVariants.{StartStrict, Offer, Join, Finish, Round, Collect, Resume, Save}
 use Rattle.log_text.specs.declared.names.Names.{Names}
 use Rattle.log_text.specs.declared.names.Names.TheVariants.{Ids, Events}
 use Rattle.log_text.specs.declared.shown.Shown.{Shown}
@@ -80,6 +80,7 @@ unshows_split names engine asked split stored inner given same is told =
 
 pub unshown_along : (script : Option OpenScript) (state : Option ScriptState) (asked : Command) (stored : List ℕ) (why : Unshown) → HoldsScript script state → IsUnshownIn script asked stored why → IsUnshownTo state asked stored why
 unshown_along None None (Resume sessions limit opening) stored unshown.Beginning holds is = tt
+unshown_along None None (StartStrict sessions limit version) stored unshown.Strict holds is = tt
 unshown_along None None asked stored why holds is = absurd is
 unshown_along (Some script) (Some state) asked stored why holds is =
     let named = subst (λ (o : Opening). EndsWrong (names_of o) script.engine asked stored why) holds.1 is in
@@ -102,6 +103,7 @@ empty_wrong names None why is = is
 empty_wrong names (Some parts) unshown.Order is = empty_shows names (shown.Order is.0) is.1
 empty_wrong names (Some parts) unshown.Refutation is = empty_shows names (shown.Refuted is.0) is.1
 empty_wrong names (Some parts) unshown.Beginning is = is
+empty_wrong names (Some parts) unshown.Strict is = is
 
 empty_ends : (names : Names) (engine : EngineState) (asked : Command) (why : Unshown) → EndsWrong names engine asked [] why → ⊥
 empty_ends names engine (Finish budget depth workers search) why is = empty_wrong names engine.asked why is
@@ -112,5 +114,6 @@ empty_ends names engine asked why is = is
 -- what isn't shown by a reply that isn't read
 pub unshown_unread : (script : Option OpenScript) (asked : Command) (stored : List ℕ) (why : Unshown) → IsUnshownIn script asked [] why → IsUnshownIn script asked stored why
 unshown_unread None (Resume sessions limit opening) stored unshown.Beginning is = tt
+unshown_unread None (StartStrict sessions limit version) stored unshown.Strict is = tt
 unshown_unread None asked stored why is = absurd is
 unshown_unread (Some script) asked stored why is = absurd (empty_ends (names_of script.opening) script.engine asked why is)

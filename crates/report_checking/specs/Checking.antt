@@ -2,7 +2,7 @@
 use Rattle.std.specs.Prelude.{◌≡◌, ℕ, ◌<◌, ⊤, false, List, [], ◌∷◌, ◌++◌, count_by, Option, Some, None}
 use Rattle.txn.specs.declared.refusals.Refusal.TheVariants.{NoMemory}
 use Rattle.log_text.specs.declared.commands.Command.{Command}
-use Rattle.log_text.specs.declared.commands.Command.TheVariants.{Start, StartIsolated, Close, BeginSearch, Collect, Skip, Show, Resume, Marks, MarksBegun, Last, Resumed, Save}
+use Rattle.log_text.specs.declared.commands.Command.TheVariants.{Start, StartIsolated, StartStrict, OfferTimed, Close, BeginSearch, Collect, Skip, Show, Resume, Marks, MarksBegun, Last, Resumed, Save}
 use Rattle.log_text.specs.declared.replies.Reply.{Reply}
 use Rattle.log_text.specs.declared.replies.Reply.TheVariants as told
 use Rattle.log_text.specs.Replies.{text_of}
@@ -34,6 +34,8 @@ AsksOfMemory Skip = ⊥
 AsksOfMemory Show = ⊥
 AsksOfMemory (Save wanted) = ⊥
 AsksOfMemory (StartIsolated sessions limit version) = ⊥
+AsksOfMemory (StartStrict sessions limit version) = ⊥
+AsksOfMemory (OfferTimed logged began ended) = ⊥
 AsksOfMemory (Resume sessions limit version) = ⊥
 AsksOfMemory (Marks marks closed) = ⊥
 AsksOfMemory (MarksBegun marks closed begun) = ⊥

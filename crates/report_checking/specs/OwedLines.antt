@@ -1,7 +1,7 @@
 -- Which reply is owed to a line of a script: of one about orders, or of one that asks for snapshot isolation.
 use Rattle.std.specs.Prelude.{◌≡◌, ℕ, ◌*◌, ◌⊎◌, Bool, false, List, Option, Some, None}
 use Rattle.log_text.specs.declared.commands.Command.{Command}
-use Rattle.log_text.specs.declared.commands.Command.TheVariants.{Start, StartIsolated, Resume}
+use Rattle.log_text.specs.declared.commands.Command.TheVariants.{Start, StartIsolated, StartStrict, Resume}
 use Rattle.log_text.specs.declared.replies.Reply.{Reply}
 use Rattle.log_text.specs.declared.replies.Reply.TheVariants as told
 use Rattle.log_text.specs.declared.versions.Opening.{Opening}
@@ -21,7 +21,8 @@ pub record ScriptState : Type 0 where
   pub opening : Opening
   pub searched : Bool
 
--- What is owed to a command, where none is open yet. To one that begins a hand-over nothing is: what had gone before isn't shown. An engine whose
+-- What is owed to a command, where none is open yet. To one that begins a hand-over nothing is, since what had gone before isn't
+-- shown; nor to one that asks for strict serializability, of which nothing is checked. An engine whose
 -- transactions are split has room for two of each.
 abbrev pub OwesFirst : Command → Reply → Option ScriptState → Type 0
 OwesFirst (Start sessions limit version) told.Done new = AreVersionSessions version sessions × IsVersionLimit version limit × (new ≡ Some (record { state = fresh_state (most_sessions version) sessions limit; opening = Ordered version; searched = false }))
@@ -30,6 +31,7 @@ OwesFirst (Start sessions limit version) answer new = ⊥
 OwesFirst (StartIsolated sessions limit version) told.Done new = AreVersionSessions version sessions × IsIsolatedLimit version limit × (new ≡ Some (record { state = fresh_state (most_sessions version) sessions (2 * limit); opening = Isolated version; searched = false }))
 OwesFirst (StartIsolated sessions limit version) (told.No refusal) new = IsIsolatedRefusal version sessions limit refusal × (new ≡ None)
 OwesFirst (StartIsolated sessions limit version) answer new = ⊥
+OwesFirst (StartStrict sessions limit version) answer new = ⊥
 OwesFirst (Resume sessions limit opening) answer new = ⊥
 OwesFirst command answer new = IsBadLine None answer new
 

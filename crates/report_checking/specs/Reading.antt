@@ -4,7 +4,7 @@ use Rattle.std.specs.List.{list_any}
 use Rattle.txn.specs.declared.refusals.Refusal.{Refusal}
 use Rattle.txn.specs.declared.refusals.Refusal.TheVariants.{NoMemory, NoRound, RoundOpen, BadLine}
 use Rattle.log_text.specs.declared.commands.Command.{Command}
-use Rattle.log_text.specs.declared.commands.Command.TheVariants.{Start, StartIsolated, Offer, Join, Close, Begin, Finish, Round, BeginSearch, Collect, Skip, Truncate, Rebuild, Show, Resume, Save, Answer}
+use Rattle.log_text.specs.declared.commands.Command.TheVariants.{Start, StartIsolated, StartStrict, Offer, Join, Close, Begin, Finish, Round, BeginSearch, Collect, Skip, Truncate, Rebuild, Show, Resume, Save, Answer}
 use Rattle.polygraph.specs.declared.solving.Answer as solved
 use Rattle.polygraph.specs.declared.solving.Answer.TheVariants as answers
 use Rattle.log_text.specs.declared.replies.Reply.{Reply}
@@ -145,6 +145,7 @@ script_left command script = script
 -- what the stored reply to a command of a script doesn't show
 abbrev pub IsUnshownIn : Option OpenScript → Command → List ℕ → Unshown → Type 0
 IsUnshownIn None (Resume sessions limit opening) stored unshown.Beginning = ⊤
+IsUnshownIn None (StartStrict sessions limit version) stored unshown.Strict = ⊤
 IsUnshownIn None command stored why = ⊥
 IsUnshownIn (Some script) command stored why = EndsWrong (names_of script.opening) script.engine command stored why
 
@@ -333,6 +334,7 @@ GivesFirst (Start sessions limit version) answer = ⊥
 GivesFirst (StartIsolated sessions limit version) told.Done = AreVersionSessions version sessions × IsIsolatedLimit version limit
 GivesFirst (StartIsolated sessions limit version) (told.No refusal) = IsIsolatedRefusal version sessions limit refusal
 GivesFirst (StartIsolated sessions limit version) answer = ⊥
+GivesFirst (StartStrict sessions limit version) answer = ⊥
 GivesFirst (Resume sessions limit version) answer = ⊥
 GivesFirst command answer = answer ≡ told.No BadLine
 

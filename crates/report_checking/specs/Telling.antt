@@ -70,6 +70,7 @@ words_of_fault (fault.Other text) = codes "wrong: owed is "
 words_of_fault (fault.Unshown unshown.Order) = codes "wrong: its order doesn't explain what had been accepted"
 words_of_fault (fault.Unshown unshown.Refutation) = codes "wrong: it refutes nothing of what had been accepted"
 words_of_fault (fault.Unshown unshown.Beginning) = codes "wrong: its script resumes another, and what had gone before isn't shown"
+words_of_fault (fault.Unshown unshown.Strict) = codes "wrong: its script asks for strict serializability, which isn't checked"
 words_of_fault fault.Missing = codes "wrong: the line has no reply"
 words_of_fault fault.TooLong = codes "wrong: it is too long to be read"
 

@@ -6,7 +6,7 @@ use Rattle.order_check.specs.declared.remainder.Parts.{Parts}
 use Rattle.refutation.specs.Refutes.{IsRefutation}
 use Rattle.refutation.specs.declared.trees.Tree.{Tree}
 use Rattle.log_text.specs.declared.commands.Command.{Command}
-use Rattle.log_text.specs.declared.commands.Command.TheVariants.{Finish, Round, Collect, Resume}
+use Rattle.log_text.specs.declared.commands.Command.TheVariants.{StartStrict, Finish, Round, Collect, Resume}
 use Rattle.log_text.specs.declared.names.Names.{Names}
 use Rattle.log_text.specs.declared.shown.Shown.TheVariants as shown
 use Rattle.round_state.specs.EngineState.{EngineState}
@@ -24,6 +24,7 @@ abbrev pub ShowsWrong : Names → List ℕ → Parts → Unshown → Type 0
 ShowsWrong names stored parts unshown.Order = (order : List TxnId) × IsShownBy names stored (Some (shown.Order order)) × (¬ Explains parts order)
 ShowsWrong names stored parts unshown.Refutation = (tree : Tree) × IsShownBy names stored (Some (shown.Refuted tree)) × (¬ IsRefutation parts tree)
 ShowsWrong names stored parts unshown.Beginning = ⊥
+ShowsWrong names stored parts unshown.Strict = ⊥
 
 -- the same of the snapshot of an open round
 abbrev pub ShowsWrongOf : Names → List ℕ → Option Parts → Unshown → Type 0
@@ -36,9 +37,11 @@ EndsWrong names engine (Collect waits) stored why = ShowsWrongOf names stored en
 EndsWrong names engine (Round budget depth workers search) stored why = (begun : EngineState) × StepsTo engine step.Begin reply.Done begun × ShowsWrongOf names stored begun.asked why
 EndsWrong names engine command stored why = ⊥
 
--- What the stored reply to a command doesn't show: a script that resumes another can't show what had gone before.
+-- What the stored reply to a command doesn't show: a script that resumes another can't show what had gone before, and one that asks for strict
+-- serializability isn't checked.
 abbrev pub IsUnshownTo : Option ScriptState → Command → List ℕ → Unshown → Type 0
 IsUnshownTo None (Resume sessions limit opening) stored unshown.Beginning = ⊤
+IsUnshownTo None (StartStrict sessions limit version) stored unshown.Strict = ⊤
 IsUnshownTo None command stored why = ⊥
 IsUnshownTo (Some old) command stored why = EndsWrong (names_of old.opening) old.state.engine command stored why
 

@@ -21,6 +21,8 @@ pub(crate) enum Unshown {
     Refutation,
     /// What had gone before: the script resumes what another run gave out.
     Beginning,
+    /// What was offered with its times: the script asks for strict serializability, which isn't checked.
+    Strict,
 }
 
 /// Why a reply is wrong.

@@ -144,6 +144,8 @@ pub(crate) fn owed_open(
         Command::Skip => Ok(Owed::Reply(Reply::No(Refusal::BadLine))),
         Command::Start { .. } => Ok(Owed::Reply(Reply::No(Refusal::BadLine))),
         Command::StartIsolated { .. } => Ok(Owed::Reply(Reply::No(Refusal::BadLine))),
+        Command::StartStrict { .. } => Ok(Owed::Reply(Reply::No(Refusal::BadLine))),
+        Command::OfferTimed { .. } => Ok(Owed::Reply(Reply::No(Refusal::BadLine))),
         Command::Resume { .. } => Ok(Owed::Reply(Reply::No(Refusal::BadLine))),
         Command::Marks { .. } => Ok(Owed::Reply(Reply::No(Refusal::BadLine))),
         Command::MarksBegun { .. } => Ok(Owed::Reply(Reply::No(Refusal::BadLine))),

@@ -51,6 +51,8 @@ impl Replay {
             | Command::Skip
             | Command::Show
             | Command::Save(_)
+            | Command::StartStrict { .. }
+            | Command::OfferTimed { .. }
             | Command::Resume { .. }
             | Command::Marks { .. }
             | Command::MarksBegun { .. }
@@ -111,6 +113,7 @@ impl Replay {
                 limit,
                 version,
             } => Ok(Owed::Reply(self.open_isolated(alloc, sessions, limit, version))),
+            Command::StartStrict { .. } => Ok(Owed::Nothing(Unshown::Strict)),
             Command::Resume { .. } => Ok(Owed::Nothing(Unshown::Beginning)),
             _ => Ok(Owed::Reply(Reply::No(Refusal::BadLine))),
         }

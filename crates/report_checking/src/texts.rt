@@ -107,6 +107,8 @@ fn words_of_fault(fault: &Fault) -> &'static str
             "wrong: it refutes nothing of what had been accepted",
         Fault::Unshown(Unshown::Beginning) =>
             "wrong: its script resumes another, and what had gone before isn't shown",
+        Fault::Unshown(Unshown::Strict) =>
+            "wrong: its script asks for strict serializability, which isn't checked",
         Fault::Missing => "wrong: the line has no reply",
         Fault::TooLong => "wrong: it is too long to be read",
     }

@@ -7,7 +7,7 @@ from typing import Any
 
 from ..core._own_keys import FORM, LARGE_FORM, LONGEST
 from ..core.errors import CantBeAskedError
-from ._kinds import EVENTS, SERIALIZABLE, SNAPSHOT, Promise
+from ._kinds import EVENTS, SERIALIZABLE, SNAPSHOT, STRICT, Promise
 from ._times import TIME_KEYS, Timeline
 
 SESSIONS, MOST_SESSIONS = 64, 256  # of a script of version 1 or 2, and of one of version 3
@@ -15,6 +15,10 @@ LIMIT, MOST = 4096, 1 << 20  # transactions that may remain, in the same way
 KEYS = 1 << 63  # keys of scripts about snapshots are below this
 OPENS = {"open", "resume"}
 PARTS = "a script that continues another one is about the promise that its first line asks for"
+OF_ITSELF = (
+    "a script that asks for strict serializability by itself can't be explained yet: give it to "
+    "cobra_audit, whose reports are of that"
+)
 ANSWERS = (
     "an answer from elsewhere is about serializability: remove the line, and the round is searched"
 )
@@ -46,9 +50,13 @@ def form_of(promise: Promise, sessions: int, limit: int) -> list[Any]:
 
 
 def asked_in(line: Sequence[Any]) -> Promise | None:
-    """The promise that a script is about if this is its first line; None if it is no such line."""
+    """The promise that a script is about if this is its first line; None if it is no such line.
+    Raises CantBeAskedError if it asks for strict serializability, of which no reply is read here
+    yet."""
     if not line or line[0] not in OPENS or len(line) < 3:
         return None
+    if line[4:] == [STRICT.name]:
+        raise CantBeAskedError(OF_ITSELF)
     return SNAPSHOT if line[4:] == [SNAPSHOT.name] else SERIALIZABLE
 
 

@@ -198,14 +198,20 @@ def _version(*versions: str) -> Form:
 
 
 VERSIONED = (*OPEN, _version("2", "3"))
-OPENS = (OPEN, VERSIONED, (*VERSIONED, _word("snapshot")))
+RESUMES = (OPEN, VERSIONED, (*VERSIONED, _word("snapshot")))
+OPENS = (OPEN, VERSIONED, (*VERSIONED, _word("snapshot", "strict")))
+TIMES = (
+    _each("when each began", _whole("a time")),
+    _each("when each ended", _whole("a time")),
+)
+OFFER = (SESSION, FIRST, TRANSACTIONS)
 MARKS = (_each("the marks", NUMBER), _each("which sessions are closed", _flag))
 IDS = _each("the order", _row("a transaction: [session,number]", (SESSION, NUMBER)))
 LAST = _row("a last writer: [key,session,number]", (KEY, SESSION, NUMBER))
 FORMS: Mapping[str, Sequence[Sequence[Form]]] = {
     "open": OPENS,
-    "resume": OPENS,
-    "offer": ((SESSION, FIRST, TRANSACTIONS),),
+    "resume": RESUMES,
+    "offer": (OFFER, (*OFFER, *TIMES)),
     "join": ((SESSION, TRANSACTIONS), (SESSION, FIRST, TRANSACTIONS)),
     "close": ((SESSION,),),
     "round": ROUND,

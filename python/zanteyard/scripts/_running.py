@@ -452,6 +452,8 @@ class ScriptRun:
             return 'up to ["resumed"] only the saved state is allowed (docs/FORMATS.md)'
         if opens or line[:1] in (["marks"], ["last"], ["resumed"]):
             return "the script is open already, and only its beginning can open it"
+        if line[:1] == ["offer"] and len(line) > 4:
+            return 'times need a script that begins with ["open",..,..,2,"strict"]'
         if line[:1] in (["offer"], ["join"]) and any(ABORTED in txn for txn in line[-1]):
             return '"aborted" needs a script of version 2, which begins with ["open",..,..,2]'
         return ""

@@ -6,3 +6,6 @@ returns-in_ok-reply-in-Open g c = rw c.in-Open.is (c.answer_open.new.audit, c.in
 
 pub returns-in_ok-reply-in-Isolated : goal.returns-in_ok-reply-in-Isolated
 returns-in_ok-reply-in-Isolated g c = rw c.in-Isolated.is (c.answer_isolated.new.audit, c.in_ok-reply-in-Isolated.ensures, refl)
+
+pub returns-in_ok-reply-in-Strict : goal.returns-in_ok-reply-in-Strict
+returns-in_ok-reply-in-Strict g c = rw c.in-Strict.is (c.answer_strict.new.offered, c.in_ok-reply-in-Strict.ensures, refl)

@@ -62,6 +62,12 @@ returns-in-Start-clause-owed c = rw c.in-Start.is (tt, out_of_place c.args.engin
 pub returns-in-StartIsolated-clause-owed : goal.returns-in-StartIsolated-clause-owed
 returns-in-StartIsolated-clause-owed c = rw c.in-StartIsolated.is (tt, out_of_place c.args.engine.now)
 
+pub returns-in-StartStrict-clause-owed : goal.returns-in-StartStrict-clause-owed
+returns-in-StartStrict-clause-owed c = rw c.in-StartStrict.is (tt, out_of_place c.args.engine.now)
+
+pub returns-in-OfferTimed-clause-owed : goal.returns-in-OfferTimed-clause-owed
+returns-in-OfferTimed-clause-owed c = rw c.in-OfferTimed.is (tt, out_of_place c.args.engine.now)
+
 pub returns-in-Resume-clause-owed : goal.returns-in-Resume-clause-owed
 returns-in-Resume-clause-owed c = rw c.in-Resume.is (tt, out_of_place c.args.engine.now)
 
@@ -126,6 +132,12 @@ returns-in-Start-clause-right c = rw c.in-Start.is (λ report new earned shows. 
 
 pub returns-in-StartIsolated-clause-right : goal.returns-in-StartIsolated-clause-right
 returns-in-StartIsolated-clause-right c = rw c.in-StartIsolated.is (λ report new earned shows. absurd earned)
+
+pub returns-in-StartStrict-clause-right : goal.returns-in-StartStrict-clause-right
+returns-in-StartStrict-clause-right c = rw c.in-StartStrict.is (λ report new earned shows. absurd earned)
+
+pub returns-in-OfferTimed-clause-right : goal.returns-in-OfferTimed-clause-right
+returns-in-OfferTimed-clause-right c = rw c.in-OfferTimed.is (λ report new earned shows. absurd earned)
 
 pub returns-in-Resume-clause-right : goal.returns-in-Resume-clause-right
 returns-in-Resume-clause-right c = rw c.in-Resume.is (λ report new earned shows. absurd earned)
@@ -195,6 +207,12 @@ returns-in-Start-clause-alone c = rw c.in-Start.is (λ answer told. inr (inr (sy
 
 pub returns-in-StartIsolated-clause-alone : goal.returns-in-StartIsolated-clause-alone
 returns-in-StartIsolated-clause-alone c = rw c.in-StartIsolated.is (λ answer told. inr (inr (sym told)))
+
+pub returns-in-StartStrict-clause-alone : goal.returns-in-StartStrict-clause-alone
+returns-in-StartStrict-clause-alone c = rw c.in-StartStrict.is (λ answer told. inr (inr (sym told)))
+
+pub returns-in-OfferTimed-clause-alone : goal.returns-in-OfferTimed-clause-alone
+returns-in-OfferTimed-clause-alone c = rw c.in-OfferTimed.is (λ answer told. inr (inr (sym told)))
 
 pub returns-in-Resume-clause-alone : goal.returns-in-Resume-clause-alone
 returns-in-Resume-clause-alone c = rw c.in-Resume.is (λ answer told. inr (inr (sym told)))
