@@ -111,10 +111,10 @@ func hearSlot(t *testing.T, plugin slot.Plugin) {
 	}
 	expect("INSERT INTO a VALUES (1, 'x')", record.Write{Relation: a, Key: "1", Inserted: true})
 	expect("UPDATE a SET id = 2; ", record.Write{Relation: a, Key: "1", Deleted: true},
-		record.Write{Relation: a, Key: "2", Inserted: true})
+		record.Write{Relation: a, Key: "2", Inserted: true, Moved: true})
 	expect("INSERT INTO full_row VALUES (1, 'x')", record.Write{Relation: oid("full_row"), Key: "1", Inserted: true})
 	expect("UPDATE full_row SET id = 3", record.Write{Relation: oid("full_row"), Key: "1", Deleted: true},
-		record.Write{Relation: oid("full_row"), Key: "3", Inserted: true})
+		record.Write{Relation: oid("full_row"), Key: "3", Inserted: true, Moved: true})
 
 	it := expect("BEGIN; SAVEPOINT x; UPDATE a SET v = 'y'; RELEASE x; SAVEPOINT y; INSERT INTO b VALUES (7); COMMIT",
 		record.Write{Relation: a, Key: "2"}, record.Write{Relation: b, Key: "7", Inserted: true})
