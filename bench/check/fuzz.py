@@ -8,11 +8,11 @@ the program, or with COBRA_AUDIT naming another one:
                           [--keep FILE] [PROGRAM]
 
 There are five generators (`fuzz_lines.py`, `fuzz_timed.py`): mutated bytes, lines mutated by their
-grammar, whole scripts, answers that are handed in, and scripts that ask for strict serializability. Each reply is compared with that of the plain model
-(`judge.py`), and each program has to end with status 0 and nothing else. It prints a table of what
-was tried by kind of line and by reply, also if SIGINT or SIGTERM stops it. At the first difference
-it stops, reduces the script as long as a difference stays, writes it to FILE
-(fuzz-difference.jsonl) and ends with status 1. --only uses only the generators whose name contains
+grammar, whole scripts, answers that are handed in, and scripts that ask for strict serializability.
+Each reply is compared with that of the plain model (`judge.py`), and each program has to end with
+status 0 and nothing else. It prints a table of what was tried by kind of line and by reply, also if
+SIGINT or SIGTERM stops it. At the first difference it stops, reduces the script as long as a
+difference stays, writes it to FILE (fuzz-difference.jsonl) and ends with status 1. --only uses only the generators whose name contains
 WORD. --processes distributes the lines over N processes, each with a model and a program. The same
 seed and number of processes give the same lines to programs that answer alike.
 """
