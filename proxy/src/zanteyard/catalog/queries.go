@@ -9,22 +9,25 @@ var encodingSQL = own.SQL(`SELECT pg_catalog.getdatabaseencoding()`)
 // PathSQL is a SELECT of one text: the schemas in which a connection looks for names, in order. The first one is "" if that may
 // change without a change of a schema: the setting names one that its user may use as a member of a role, or not at all. The
 // server looks at a membership only when some schema changes, a temporary one of another connection's perhaps.
-const PathSQL = `SELECT pg_catalog.array_to_json(pg_catalog.array_cat(CASE WHEN EXISTS (` + unsureSchemas + `) THEN ARRAY[''::pg_catalog.name]
-  ELSE '{}'::pg_catalog.name[] END, pg_catalog.current_schemas(false)))::pg_catalog.text`
+const PathSQL = `SELECT pg_catalog.array_to_json(pg_catalog.array_cat(CASE
+  WHEN pg_catalog.current_setting('is_superuser') OPERATOR(pg_catalog.=) 'on' THEN '{}'::pg_catalog.name[]
+  WHEN pg_catalog.current_setting('search_path') OPERATOR(pg_catalog.!~) '` + readPath + `' OR EXISTS (` + unsureSchemas + `)
+  THEN ARRAY[''::pg_catalog.name] ELSE '{}'::pg_catalog.name[] END, pg_catalog.current_schemas(false)))::pg_catalog.text`
 
 const (
-	// unsureSchemas are the schemas that the setting names and that the user may not use by a right of its own.
-	unsureSchemas = `SELECT FROM pg_catalog.pg_namespace n, pg_catalog.pg_roles r
-  WHERE r.rolname OPERATOR(pg_catalog.=) current_user AND n.nspname OPERATOR(pg_catalog.=) ANY (` + namedSchemas + `)
-  AND NOT r.rolsuper AND n.nspowner OPERATOR(pg_catalog.<>) r.oid AND NOT EXISTS (
-    SELECT FROM pg_catalog.aclexplode(coalesce(n.nspacl, pg_catalog.acldefault('n', n.nspowner))) a
-    WHERE a.privilege_type OPERATOR(pg_catalog.=) 'USAGE' AND (a.grantee OPERATOR(pg_catalog.=) r.oid
-      OR a.grantee OPERATOR(pg_catalog.=) 0::pg_catalog.oid))`
-	// namedSchemas are the names in the setting search_path; all names, if some are written in a way that isn't read here.
-	namedSchemas = `CASE WHEN pg_catalog.current_setting('search_path') OPERATOR(pg_catalog.~)
-    '^ *"?[a-z0-9_$]*"?( *, *"?[a-z0-9_$]*"?)* *$' THEN pg_catalog.array_replace(pg_catalog.string_to_array(
-    pg_catalog.translate(pg_catalog.current_setting('search_path'), ' "', ''), ','), '$user', current_user::pg_catalog.text)::pg_catalog.name[]
-    ELSE ARRAY(SELECT nspname FROM pg_catalog.pg_namespace WHERE nspname OPERATOR(pg_catalog.!~) '^pg_') END`
+	// readPath are the forms of search_path that are read here: names without capitals, or quoted ones without commas and quotes.
+	readPath = `^\s*("[^",]*"|[a-z0-9_$]*)(\s*,\s*("[^",]*"|[a-z0-9_$]*))*\s*$`
+	// unsureSchemas are the schemas that the setting names and that the user may not use by a right of its own. A right that
+	// somebody else than the owner has granted doesn't count. All of it has to be cheap to plan: it is asked often.
+	unsureSchemas = `SELECT FROM pg_catalog.pg_namespace n
+  WHERE n.nspname OPERATOR(pg_catalog.=) ANY (pg_catalog.array_replace(pg_catalog.string_to_array(pg_catalog.translate(
+    pg_catalog.regexp_replace(pg_catalog.btrim(pg_catalog.current_setting('search_path')), '\s*,\s*', ',', 'g'), '"', ''), ','),
+    '$user', current_user::pg_catalog.text)::pg_catalog.name[])
+  AND NOT coalesce(n.nspowner OPERATOR(pg_catalog.=) ` + me + ` OR pg_catalog.aclcontains(` + rights + `, pg_catalog.makeaclitem(
+    ` + me + `, n.nspowner, 'USAGE', false)) OR pg_catalog.aclcontains(` + rights + `, pg_catalog.makeaclitem(
+    0::pg_catalog.oid, n.nspowner, 'USAGE', false)), false)`
+	rights = `coalesce(n.nspacl, pg_catalog.acldefault('n', n.nspowner))`
+	me     = `pg_catalog.to_regrole(pg_catalog.quote_ident(current_user::pg_catalog.text))::pg_catalog.oid`
 )
 
 var typesSQL = own.SQL(`SELECT oid::pg_catalog.text, typtype::pg_catalog.text, typbasetype::pg_catalog.text, typname::pg_catalog.text FROM pg_catalog.pg_type

@@ -17,7 +17,7 @@ func TestNamesByMembership(t *testing.T) {
 	needServer(t)
 	alone(t)
 	undo := func() {
-		sql(t, "DROP SCHEMA IF EXISTS lent CASCADE; DROP SCHEMA IF EXISTS hidden CASCADE")
+		sql(t, `DROP SCHEMA IF EXISTS lent CASCADE; DROP SCHEMA IF EXISTS hidden CASCADE; DROP SCHEMA IF EXISTS "Of Mine" CASCADE`)
 		for _, role := range []string{"borrower", "lenders"} {
 			sql(t, "DO $$ BEGIN IF EXISTS (SELECT FROM pg_roles WHERE rolname = '"+role+"') THEN DROP OWNED BY "+role+"; DROP ROLE "+role+"; END IF; END $$")
 		}
@@ -37,7 +37,9 @@ func TestNamesByMembership(t *testing.T) {
 		{"behind one that can't be used", "SELECT", "hidden, lent, public", false},
 		{"behind one that a group may use", "GRANT USAGE ON SCHEMA hidden TO lenders", `"hidden",lent`, false},
 		{"behind one that isn't there", "SELECT", `nowhere, "$user", lent`, true},
-		{"of a path that isn't read", "SELECT", `"Nowhere", lent`, false},
+		{"behind another one that isn't there", "SELECT", `"No where", lent`, true},
+		{"of a path that isn't read", "SELECT", `"a""b", lent`, false},
+		{"behind one with a name of its own kind", `CREATE SCHEMA "Of Mine"; GRANT USAGE ON SCHEMA "Of Mine" TO lenders`, `"Of Mine", lent`, false},
 		{"by everybody's right", "REVOKE USAGE ON SCHEMA lent FROM borrower; GRANT USAGE ON SCHEMA lent TO PUBLIC", "lent", true},
 	} {
 		sql(t, one.does)
