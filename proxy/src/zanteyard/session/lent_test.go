@@ -17,6 +17,7 @@ func TestNamesByMembership(t *testing.T) {
 	needServer(t)
 	alone(t)
 	undo := func() {
+		sql(t, "GRANT SELECT ON pg_catalog.pg_roles TO PUBLIC")
 		sql(t, `DROP SCHEMA IF EXISTS lent CASCADE; DROP SCHEMA IF EXISTS hidden CASCADE; DROP SCHEMA IF EXISTS "Of Mine" CASCADE`)
 		for _, role := range []string{"borrower", "lenders"} {
 			sql(t, "DO $$ BEGIN IF EXISTS (SELECT FROM pg_roles WHERE rolname = '"+role+"') THEN DROP OWNED BY "+role+"; DROP ROLE "+role+"; END IF; END $$")
@@ -41,6 +42,7 @@ func TestNamesByMembership(t *testing.T) {
 		{"of a path that isn't read", "SELECT", `"a""b", lent`, false},
 		{"behind one with a name of its own kind", `CREATE SCHEMA "Of Mine"; GRANT USAGE ON SCHEMA "Of Mine" TO lenders`, `"Of Mine", lent`, false},
 		{"by everybody's right", "REVOKE USAGE ON SCHEMA lent FROM borrower; GRANT USAGE ON SCHEMA lent TO PUBLIC", "lent", true},
+		{"where nobody may read who there is", "REVOKE SELECT ON pg_catalog.pg_roles FROM PUBLIC", "lent", true},
 	} {
 		sql(t, one.does)
 		sql(t, "ALTER ROLE borrower SET search_path = "+one.path)
