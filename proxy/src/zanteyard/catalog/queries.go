@@ -10,20 +10,20 @@ var encodingSQL = own.SQL(`SELECT pg_catalog.getdatabaseencoding()`)
 // change without a change of a schema: the setting names one that its user may use as a member of a role, or not at all. The
 // server looks at a membership only when some schema changes, a temporary one of another connection's perhaps.
 const PathSQL = `SELECT pg_catalog.array_to_json(pg_catalog.array_cat(CASE
-  WHEN pg_catalog.current_setting('is_superuser') OPERATOR(pg_catalog.=) 'on' THEN '{}'::pg_catalog.name[]
   WHEN pg_catalog.current_setting('search_path') OPERATOR(pg_catalog.!~) '` + readPath + `' OR EXISTS (` + unsureSchemas + `)
   THEN ARRAY[''::pg_catalog.name] ELSE '{}'::pg_catalog.name[] END, pg_catalog.current_schemas(false)))::pg_catalog.text`
 
 const (
 	// readPath are the forms of search_path that are read here: names without capitals, or quoted ones without commas and quotes.
-	readPath = `^\s*("[^",]*"|[a-z0-9_$]*)(\s*,\s*("[^",]*"|[a-z0-9_$]*))*\s*$`
-	// unsureSchemas are the schemas that the setting names and that the user may not use by a right of its own. A right that
-	// somebody else than the owner has granted doesn't count. All of it has to be cheap to plan: it is asked often.
+	readPath = `^ *("[^",]*"|[a-z0-9_$]*)( *, *("[^",]*"|[a-z0-9_$]*))* *$`
+	// unsureSchemas are the schemas that the setting names and that the user may not use by a right of its own. To be a superuser is
+	// none, since that may end; a right that somebody else than the owner has granted doesn't count. It names no table that
+	// somebody may not read, and has to be cheap to plan: it is asked often.
 	unsureSchemas = `SELECT FROM pg_catalog.pg_namespace n
   WHERE n.nspname OPERATOR(pg_catalog.=) ANY (pg_catalog.array_replace(pg_catalog.string_to_array(pg_catalog.translate(
-    pg_catalog.regexp_replace(pg_catalog.btrim(pg_catalog.current_setting('search_path')), '\s*,\s*', ',', 'g'), '"', ''), ','),
+    pg_catalog.regexp_replace(pg_catalog.btrim(pg_catalog.current_setting('search_path')), ' *, *', ',', 'g'), '"', ''), ','),
     '$user', current_user::pg_catalog.text)::pg_catalog.name[])
-  AND NOT coalesce(n.nspowner OPERATOR(pg_catalog.=) ` + me + ` OR pg_catalog.aclcontains(` + rights + `, pg_catalog.makeaclitem(
+  AND NOT coalesce(pg_catalog.aclcontains(` + rights + `, pg_catalog.makeaclitem(
     ` + me + `, n.nspowner, 'USAGE', false)) OR pg_catalog.aclcontains(` + rights + `, pg_catalog.makeaclitem(
     0::pg_catalog.oid, n.nspowner, 'USAGE', false)), false)`
 	rights = `coalesce(n.nspacl, pg_catalog.acldefault('n', n.nspowner))`

@@ -42,6 +42,9 @@ func TestNamesByMembership(t *testing.T) {
 		{"of a path that isn't read", "SELECT", `"a""b", lent`, false},
 		{"behind one with a name of its own kind", `CREATE SCHEMA "Of Mine"; GRANT USAGE ON SCHEMA "Of Mine" TO lenders`, `"Of Mine", lent`, false},
 		{"by everybody's right", "REVOKE USAGE ON SCHEMA lent FROM borrower; GRANT USAGE ON SCHEMA lent TO PUBLIC", "lent", true},
+		{"by a membership of its owner", "REVOKE USAGE ON SCHEMA lent FROM PUBLIC; ALTER SCHEMA lent OWNER TO borrower; " +
+			"REVOKE ALL ON SCHEMA lent FROM borrower; GRANT USAGE ON SCHEMA lent TO lenders", "lent, public", false},
+		{"by its owner's right", "GRANT USAGE ON SCHEMA lent TO borrower", "lent, public", true},
 		{"where nobody may read who there is", "REVOKE SELECT ON pg_catalog.pg_roles FROM PUBLIC", "lent", true},
 	} {
 		sql(t, one.does)
@@ -69,5 +72,11 @@ func TestNamesByMembership(t *testing.T) {
 			t.Errorf("%s, %s: certain %v: %s", one.what, one.path, is, text)
 		}
 		p.conn.Close()
+	}
+	// A superuser may cease to be one.
+	c := direct(t, "postgres")
+	c.query("SET search_path = lent, pg_catalog")
+	if path := show(c.query(catalog.PathSQL)); !strings.Contains(path, `[\"\",\"lent\"`) {
+		t.Errorf("a superuser's path is certain: %s", path)
 	}
 }
