@@ -25,7 +25,7 @@ from plain_verdicts import Wrong
 LINES, SECONDS = 300000, 60.0  # tried at most; bench/check/fuzz.py tries more
 SEED = 3
 FOUND = 1500  # lines within which each lie about replies is found
-SCRIPTS = 4  # times as many for lies about lines: some need a script of a certain version
+SCRIPTS = 16  # times as many for lies about lines: some need a script of a certain version
 LEFT = 3  # lines, at most, to which a lie's script is reduced
 
 

@@ -37,7 +37,7 @@ const (
 	// newestMade is about what gives the server's own names another meaning.
 	newestMade = newest + "pg_catalog.pg_operator WHERE oid >= 16384)" + newest + "pg_catalog.pg_cast WHERE oid >= 16384)"
 	// newestCalls is about what tables call when they are written to.
-	newestCalls = newest + "pg_catalog.pg_trigger WHERE NOT tgisinternal AND tgrelid NOT IN" + temporary +
+	newestCalls = newest + "pg_catalog.pg_trigger WHERE tgrelid NOT IN" + temporary +
 		newest + "pg_catalog.pg_attrdef WHERE adrelid NOT IN" + temporary +
 		newest + "pg_catalog.pg_statistic_ext)" +
 		newest + "pg_catalog.pg_constraint WHERE contype IN ('c', 'f') AND conrelid NOT IN" + temporary

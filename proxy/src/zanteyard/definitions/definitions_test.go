@@ -90,7 +90,8 @@ func TestTemporaryTables(t *testing.T) {
 			was = now
 		}
 	}
-	for _, text := range []string{"CREATE TABLE u (id int)", "ALTER TABLE t ADD COLUMN w text", "CREATE INDEX ON t (v)", "GRANT SELECT ON t TO PUBLIC",
+	for _, text := range []string{"CREATE TABLE u (id int)", "CREATE TABLE child (t int REFERENCES t)", "ALTER TABLE child DISABLE TRIGGER ALL",
+		"ALTER TABLE child ENABLE TRIGGER ALL", "DROP TABLE child", "ALTER TABLE t ADD COLUMN w text", "CREATE INDEX ON t (v)", "GRANT SELECT ON t TO PUBLIC",
 		"GRANT SELECT (xmin) ON t TO PUBLIC", "REVOKE SELECT (xmin) ON t FROM PUBLIC", "CREATE SCHEMA elsewhere", "CREATE FUNCTION f() RETURNS int LANGUAGE sql AS 'SELECT 1'", "CREATE ROLE somebody", "DROP TABLE u",
 		"ALTER TABLE t RENAME TO pg_temp_t", "CREATE SCHEMA pgtemp_1", "ALTER TABLE pg_temp_t DROP CONSTRAINT t_pkey"} {
 		sql(t, conn, text)
