@@ -216,7 +216,7 @@ DECLARE h CURSOR WITH HOLD FOR SELECT id, owner FROM account WHERE id < 5 ORDER 
 DECLARE b BINARY CURSOR FOR SELECT id FROM account WHERE id = 65;
 COMMIT;
 FETCH 2 FROM h;
-SELECT name, is_holdable, statement FROM pg_cursors ORDER BY name;
+SELECT name, is_holdable, is_binary FROM pg_cursors ORDER BY name; -- its text may be a rewritten one
 CLOSE ALL;
 PREPARE p (int) AS SELECT id, balance FROM account WHERE id = $1;
 EXECUTE p (3);

@@ -28,6 +28,8 @@ SCRIPTS = {"psycopg3_c": "psycopg3"}  # if it differs from the driver's name
 MORE = {"psycopg3_c": {"PSYCOPG_IMPL": "c"}}  # in the environment
 SLOW = ("jdbc", "django", "sqlalchemy")  # these start first
 BUILDS = {}  # processes that build what the tests run
+# Programs that may end before any of their statements was tried: they run once more, only to be seen.
+SHORT = {"pgx", "psql_queries", "psycopg2"}
 PREPARING = threading.Lock()  # the server refuses rights on one database that are granted at once
 RUNS = {}  # the programs' output, once they have ended
 
@@ -85,6 +87,8 @@ def both(user, call, environment):
     with PREPARING:
         PAIR.prepare(user)
     texts = PAIR.run(user, call, **environment)
+    if user in SHORT:
+        PAIR.run(user, call, **environment)
     if keep := os.environ.get("ZANTEYARD_KEEP"):
         for name, text in zip(("direct", "proxied"), texts):
             with open(os.path.join(keep, f"{user}.{name}"), "w", encoding="utf-8") as file:
@@ -174,9 +178,7 @@ class TestDrivers(unittest.TestCase):
             self.skipTest("no driver ran")
         self.assertNotIn("ended", PAIR.proxy.events, PAIR.proxy.told())
         counts = PAIR.proxy.reads_by_user()
-        # On a busy machine a short program may end before any of its statements was tried.
-        unseen = {each for each in READERS if not counts.get(each)}
-        self.assertLessEqual(unseen, {"pgx", "psql_queries", "psycopg2"}, counts)
+        self.assertEqual({each for each in READERS if not counts.get(each)}, set(), counts)
 
 
 if __name__ == "__main__":
