@@ -5,14 +5,14 @@ ghost use Rattle.session_clocks.specs.Sweeps.{FitTops, FitSpans, AreAsLong};
 ghost use Rattle.session_clocks.specs.SavedNumbers.{Stays, place_in, IsWithin, IsMoreOf, since, had, IsRowSaved, IsTailSaved, IsSpanSaved, AreTailsSaved, AreSpansSaved};
 
 use crate::rows::line;
-use std::alloc::Global;
+use std::alloc::{AllocError, Global};
 use txn::{NoMemory, TxnId};
 
-/// A number of a line before it was written over.
+/// A number of a line before it was written over, in 16 bytes: a search of many choices saves millions.
 #[derive(Clone, Copy, Debug)]
 pub(crate) struct Saved {
-    pub line: usize,
-    pub place: usize,
+    pub line: u32,
+    pub place: u32,
     pub number: u64,
 }
 
@@ -134,6 +134,20 @@ fn stays(way: Way, number: u64, other: u64) -> bool
     }
 }
 
+/// A number as it is saved. A line of 2^32 numbers or more counts as want of memory.
+fn saved_of(line: usize, place: usize, number: u64) -> Result<Saved, NoMemory>
+    ensures { IfOk result (λ saved. saved ≡ record { line = line; place = place; number = number }) }
+{
+    match (u32::try_from(line), u32::try_from(place)) {
+        (Ok(line), Ok(place)) => Ok(Saved {
+            line,
+            place,
+            number,
+        }),
+        _ => Err(AllocError),
+    }
+}
+
 /// Saves the numbers of one row of a line that joining the other row changes.
 fn save_row(
     saved: &mut Vec<Saved>,
@@ -155,11 +169,7 @@ fn save_row(
         if stays(way, number, row[k]) {
             continue;
         }
-        saved.push(Saved {
-            line: at_line,
-            place: from + k,
-            number,
-        })?;
+        saved.push(saved_of(at_line, from + k, number)?)?;
     }
     Ok(())
 }
@@ -278,7 +288,11 @@ fn put(lines: &mut [Vec<u64>], saved: Saved)
     ensures long { AreAsLong lines.old lines.new }
     ensures numbers { (line place : ℕ) → place_in lines.new line place ≡ had (saved ∷ []) (place_in lines.old) line place }
 {
-    set_number(&mut lines[saved.line], saved.place, saved.number);
+    set_number(
+        &mut lines[saved.line as usize],
+        saved.place as usize,
+        saved.number,
+    );
 }
 
 /// Puts all numbers back that were saved behind the first so many, and lets them go.
