@@ -50,8 +50,8 @@ def lay_out(top, folder):
     crates = folder / "crates"
     for name in LOW:
         shutil.copytree(top / "crates" / name, crates / name, ignore=shutil.ignore_patterns("must-fail"))
-    for path in (top / "bench" / "relation").rglob("*.txt"):
-        copy = crates / "relation" / path.relative_to(top / "bench" / "relation").with_suffix("")
+    for path in (top / "bench" / "cost" / "relation").rglob("*.txt"):
+        copy = crates / "relation" / path.relative_to(top / "bench" / "cost" / "relation").with_suffix("")
         copy.parent.mkdir(parents=True, exist_ok=True)
         shutil.copy(path, copy)
     shutil.copy(top / "HANDLES", folder / "HANDLES")

@@ -2,7 +2,7 @@
 use Rattle.std.specs.Prelude.{◌≡◌, ℕ, ◌+◌, ◌*◌, ◌<◌, ◌≤◌, ◌⊎◌, ⊤, List, [], ◌∷◌, ◌++◌, length, nat_le, if◌then◌else◌, Option, Some, None}
 use Rattle.std.specs.Option.{option_map}
 use Rattle.std.specs.Global.{Vec}
-use Rattle.std.specs.Io.KnownBytes.{IsAtEnd}
+use Rattle.std.specs.Io.KnownBytes.{Consumes, IsAtEnd}
 use Rattle.byte_lines.specs.declared.lines.Next.{Next}
 use Rattle.byte_lines.specs.declared.lines.Next.TheVariants.{Line, TooLong, End}
 use Rattle.byte_lines.specs.Lines.{lines, HasNoLf}
@@ -58,6 +58,12 @@ pub record ReadsLine (old new : LineState) (bytes : List ℕ) (left : Option (Li
 abbrev pub EndsInLast : LineState → ℕ → LineState → ℕ → List ℕ → Type 0
 EndsInLast old last_old new last bytes = length old.ahead ≤ last_old → (length new.ahead < last) ⊎ (HasNoLf bytes × (new.ahead ≡ []))
 
+-- What a source gave becomes the line that is handed out, by what it tells to be left and how much its last read gave, before and after. The line's LF
+-- is among what the last read gave, where what was ahead came from that, too.
+abbrev pub ReadsNext : LineState → Option (List ℕ) → ℕ → LineState → Option (List ℕ) → ℕ → Next → Type 0
+ReadsNext old left last_read new left_now last_read_now next =
+    (read : List ℕ) × Consumes left left_now read × ReadsLine old new (old.ahead ++ read) left_now next × EndsInLast old last_read new last_read_now (old.ahead ++ read)
+
 -- of these bytes, a piece without LF is part of the line under way now
 pub record StopsInLine (old new : LineState) (bytes : List ℕ) : Type 0 where
   pub piece : List ℕ
@@ -75,6 +81,10 @@ IsNextOf limit None next after = ⊤
 IsNextOf limit (Some all) (Line line) after = (rest : List (List ℕ)) × (after ≡ Some rest) × (all ≡ line.items ∷ rest) × (length line.items ≤ limit)
 IsNextOf limit (Some all) TooLong after = (rest : List (List ℕ)) × (line : List ℕ) × (after ≡ Some rest) × (all ≡ line ∷ rest) × (limit < length line)
 IsNextOf limit (Some all) End after = (after ≡ Some []) × (all ≡ [])
+
+-- Told what bytes were left before and after, the first of their lines is handed out.
+abbrev pub HandsOutFirst : LineState → Option (List ℕ) → LineState → Option (List ℕ) → Next → Type 0
+HandsOutFirst old left new left_now next = IsNextOf old.limit (lines_ahead old left) next (lines_ahead new left_now)
 
 -- at most how many lines come from the front of one
 abbrev pub lines_of : Option (List ℕ) → ℕ

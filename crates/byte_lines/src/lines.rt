@@ -53,7 +53,7 @@ impl Model for LineReader {
 }
 
 impl LineReader {
-    ghost use Rattle.byte_lines.specs.LineReaders.{grown, lines_ahead, lines_left, EndsAtLf, EndsInLast, IsHandedOut, IsLast, IsNextOf, ReadsLine, StopsInLine};
+    ghost use Rattle.byte_lines.specs.LineReaders.{grown, lines_left, EndsAtLf, HandsOutFirst, IsHandedOut, IsLast, ReadsLine, ReadsNext, StopsInLine};
 
     pub fn new(alloc: Global, limit: usize) -> Result<LineReader, AllocError>
         ensures limit { IfOk result (λ reader. reader.limit ≡ limit) }
@@ -184,11 +184,11 @@ impl LineReader {
     /// stays so, and a later call goes on with it. A read that failed isn't tried again.
     pub fn next_line<S: ByteSource>(&mut self, source: &mut S) -> Result<Next, Failure>
         // Told what bytes were left, it hands out the first of their lines.
-        ensures next { self.old.under_way ≡ Some [] → IfOk result (λ next. IsNextOf self.old.limit (lines_ahead self.old (S.remaining source.old)) next (lines_ahead self.new (S.remaining source.new))) }
+        ensures next { self.old.under_way ≡ Some [] → IfOk result (HandsOutFirst self.old (S.remaining source.old) self.new (S.remaining source.new)) }
 
         // What it read becomes a line. Of a source that doesn't tell what is left it isn't known what that was. The line's LF is among what the
         // last read gave, where what was ahead came from that, too.
-        ensures line { IfOk result (λ next. (read : List ℕ) × Consumes (S.remaining source.old) (S.remaining source.new) read × ReadsLine self.old self.new (self.old.ahead ++ read) (S.remaining source.new) next × EndsInLast self.old (S.last_read source.old) self.new (S.last_read source.new) (self.old.ahead ++ read)) }
+        ensures line { IfOk result (ReadsNext self.old (S.remaining source.old) (S.last_read source.old) self.new (S.remaining source.new) (S.last_read source.new)) }
         ensures stopped { OnErr result ((read : List ℕ) × Consumes (S.remaining source.old) (S.remaining source.new) read × StopsInLine self.old self.new (self.old.ahead ++ read)) }
         ensures limit { self.new.limit ≡ self.old.limit }
 

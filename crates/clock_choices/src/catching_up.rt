@@ -53,7 +53,9 @@ fn bring_up(
 ) -> Result<(), NoMemory>
     requires index { IsIndex more.now index.now }
     requires sessions { length graph.old.gone ≡ length more.now.remain }
-    requires goes_on { (parts : Parts) × (few : List ℕ) × (session : ℕ) × (count : ℕ) × GoesOn parts more.now graph.old.gone few graph.old.received graph.old.arcs steps.old.items session count new.now × (first ≡ slice_index few session) }
+    requires goes_on { (parts : Parts) × (few : List ℕ) × (session : ℕ) × (count : ℕ)
+        × GoesOn parts more.now graph.old.gone few graph.old.received graph.old.arcs steps.old.items session count new.now
+        × (first ≡ slice_index few session) }
     ensures gone { graph.new.gone ≡ graph.old.gone }
     ensures received { graph.new.received ≡ graph.old.received }
     ensures mark { last_mark graph.new ≡ last_mark graph.old }
@@ -90,7 +92,9 @@ fn bring_up_spread(
 ) -> Result<(), NoMemory>
     requires index { IsIndex more.now index.now }
     requires sessions { length graph.old.gone ≡ length more.now.remain }
-    requires goes_on { (parts : Parts) × (few : List ℕ) × (session : ℕ) × (count : ℕ) × GoesOn parts more.now graph.old.gone few graph.old.received graph.old.arcs steps.old.items session count new.now × (first ≡ slice_index few session) }
+    requires goes_on { (parts : Parts) × (few : List ℕ) × (session : ℕ) × (count : ℕ)
+        × GoesOn parts more.now graph.old.gone few graph.old.received graph.old.arcs steps.old.items session count new.now
+        × (first ≡ slice_index few session) }
     ensures gone { graph.new.gone ≡ graph.old.gone }
     ensures received { graph.new.received ≡ graph.old.received }
     ensures mark { last_mark graph.new ≡ last_mark graph.old }
@@ -114,7 +118,9 @@ fn go_on(
 ) -> Result<(), NoMemory>
     requires index { IsIndex more.now index.now }
     requires sessions { length graph.old.gone ≡ length more.now.remain }
-    requires goes_on { (parts : Parts) × (few : List ℕ) × (session : ℕ) × (count : ℕ) × GoesOn parts more.now graph.old.gone few graph.old.received graph.old.arcs steps.old.items session count new.now × (first ≡ slice_index few session) }
+    requires goes_on { (parts : Parts) × (few : List ℕ) × (session : ℕ) × (count : ℕ)
+        × GoesOn parts more.now graph.old.gone few graph.old.received graph.old.arcs steps.old.items session count new.now
+        × (first ≡ slice_index few session) }
     ensures gone { graph.new.gone ≡ graph.old.gone }
     ensures received { graph.new.received ≡ graph.old.received }
     ensures held { OnOk result (IsHeld more.now graph.new.gone graph.new.received graph.new.arcs steps.new.items) }

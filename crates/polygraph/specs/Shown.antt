@@ -1,11 +1,11 @@
 -- For private clauses: what a search of a node finds, and how it is shown.
-use Rattle.std.specs.Prelude.{ℕ, ◌+◌, ◌*◌, ◌≤◌, ⊤, List, ◌∷◌, length}
+use Rattle.std.specs.Prelude.{ℕ, ◌+◌, ◌*◌, ◌≤◌, ⊤, List, ◌∷◌, length, take}
 use Rattle.txn.specs.declared.transactions.TxnId.{TxnId}
 use Rattle.txn.specs.declared.choices.Choice.{Choice}
 use Rattle.txn.specs.declared.choices.Side.{Side}
 use Rattle.order_check.specs.declared.remainder.Parts.{Parts}
 use Rattle.order_check.specs.BadReads.{IsNoWrite, IsGoneRead}
-use Rattle.order_check.specs.Cycles.{Sides}
+use Rattle.order_check.specs.Cycles.{Sides, sides_after}
 use Rattle.order_check.specs.Explains.{Explains}
 use Rattle.order_check.specs.Search.{Outcome, has_order, no_order, used_up, IsHopeless}
 use Rattle.order_check.specs.TakenSides.{KeepsSides}
@@ -13,7 +13,7 @@ use Rattle.refutation.specs.declared.trees.Leaf.{Leaf}
 use Rattle.refutation.specs.declared.trees.Leaf.TheVariants as leaves
 use Rattle.refutation.specs.Pruned.{Stands}
 use Rattle.refutation.specs.Refutes.{IsClosed, Refutes, depth_of}
-use Rattle.clock_choices.specs.BranchState.{BranchState, arc_of, assumed, all_taken}
+use Rattle.clock_choices.specs.BranchState.{BranchState, arc_of, assumed, all_taken, last_steps, taken_before}
 use Rattle.polygraph.specs.declared.bad_reads.BadRead.{BadRead}
 use Rattle.polygraph.specs.declared.bad_reads.BadRead.TheVariants as bad_reads
 use Rattle.polygraph.specs.declared.found.Found.{Found}
@@ -71,6 +71,20 @@ abbrev pub StandsAbove : Parts → List (TxnId × TxnId) → ℕ → ℕ → Fou
 StandsAbove parts taken more most (at_node.Yes order) = Explains parts order
 StandsAbove parts taken more most (at_node.No pruned) = Stands parts taken pruned × (depth_of pruned.tree + more ≤ most)
 StandsAbove parts taken more most at_node.Spent = ⊤
+
+-- the sides taken up to so many of the branch's last steps
+abbrev pub taken_up_to : BranchState → ℕ → List (TxnId × TxnId)
+taken_up_to branch count = sides_after (taken_before branch.log branch.levels) (take count (last_steps branch.log branch.levels))
+
+-- What stood behind the branch's last steps stands above them, one node deeper.
+abbrev pub StandsAboveLast : BranchState → Found → Found → Type 0
+StandsAboveLast branch found whole =
+    (more most : ℕ) → StandsAbove branch.parts (all_taken branch.log branch.levels) more most found → StandsAbove branch.parts (taken_before branch.log branch.levels) more (most + 1) whole
+
+-- What stood behind all of the branch's steps stands above them, one node deeper.
+abbrev pub StandsAboveAll : BranchState → Found → Found → Type 0
+StandsAboveAll branch found whole =
+    (more most : ℕ) → StandsAbove branch.parts (all_taken branch.log branch.levels) more most found → StandsAbove branch.parts (assumed branch.levels) more (most + 1) whole
 
 -- above its steps a tree refutes the parts from these sides on, and is at most so deep
 abbrev pub IsAbove : Parts → List (TxnId × TxnId) → ℕ → ℕ → Cube → Type 0

@@ -1,7 +1,6 @@
-ghost use Rattle.std.specs.Prelude.{◌≡◌, ℕ, ◌+◌, IfOk, List};
+ghost use Rattle.std.specs.Prelude.{◌≡◌, IfOk, List};
 ghost use Rattle.txn.specs.declared.transactions.TxnId.{TxnId};
-ghost use Rattle.clock_choices.specs.BranchState.{assumed, all_taken, taken_before};
-ghost use Rattle.polygraph.specs.Shown.{outcome_of, OrderKeeps, told_of, StandsAbove};
+ghost use Rattle.polygraph.specs.Shown.{outcome_of, OrderKeeps, told_of, StandsAboveAll, StandsAboveLast};
 
 use crate::solving::Cube;
 use crate::steps::{below_all, below_last};
@@ -38,7 +37,7 @@ impl Found {
 pub fn above_last(alloc: Global, branch: &Branch, found: Found) -> Result<Found, NoMemory>
     ensures kind { IfOk result (λ whole. outcome_of (told_of whole) ≡ outcome_of (told_of found)) }
     ensures sides { IfOk result (λ whole. (sides : List (TxnId × TxnId)) → OrderKeeps sides (told_of found) → OrderKeeps sides (told_of whole)) }
-    ensures above { IfOk result (λ whole. (more most : ℕ) → StandsAbove branch.now.parts (all_taken branch.now.log branch.now.levels) more most found → StandsAbove branch.now.parts (taken_before branch.now.log branch.now.levels) more (most + 1) whole) }
+    ensures above { IfOk result (StandsAboveLast branch.now found) }
 {
     match found {
         Found::No(pruned) => Ok(Found::No(below_last(alloc, branch, pruned)?)),
@@ -51,7 +50,7 @@ pub fn above_last(alloc: Global, branch: &Branch, found: Found) -> Result<Found,
 pub fn above_all(alloc: Global, branch: &mut Branch, found: Found) -> Result<Found, NoMemory>
     ensures kind { IfOk result (λ whole. outcome_of (told_of whole) ≡ outcome_of (told_of found)) }
     ensures sides { IfOk result (λ whole. (sides : List (TxnId × TxnId)) → OrderKeeps sides (told_of found) → OrderKeeps sides (told_of whole)) }
-    ensures above { IfOk result (λ whole. (more most : ℕ) → StandsAbove branch.old.parts (all_taken branch.old.log branch.old.levels) more most found → StandsAbove branch.old.parts (assumed branch.old.levels) more (most + 1) whole) }
+    ensures above { IfOk result (StandsAboveAll branch.old found) }
 {
     match found {
         Found::No(pruned) => Ok(Found::No(below_all(alloc, branch, pruned)?)),

@@ -1,8 +1,8 @@
 // Forced steps above the tree of what was refuted. Of most steps no cycle is ever asked for, so it
 // is looked up only here, of those that a tree needs.
-ghost use Rattle.std.specs.Prelude.{◌≡◌, ◌+◌, ◌<◌, ◌≤◌, ◌++◌, IfOk, List, OnOk, Some, length, slice_get, take};
+ghost use Rattle.std.specs.Prelude.{◌≡◌, ◌+◌, ◌<◌, ◌≤◌, ◌++◌, IfOk, List, OnOk, Some, length, slice_get};
 ghost use Rattle.txn.specs.declared.transactions.TxnId.{TxnId};
-ghost use Rattle.order_check.specs.Cycles.{sides_after};
+ghost use Rattle.polygraph.specs.Shown.{taken_up_to};
 ghost use Rattle.refutation.specs.Above.{StandsBelow};
 ghost use Rattle.refutation.specs.Pruned.{Stands};
 ghost use Rattle.refutation.specs.Refutes.{depth_of};
@@ -26,8 +26,8 @@ fn last_step(branch: &Branch, place: usize) -> Forced
 /// than those of the branch.
 fn put_step(alloc: Global, branch: &Branch, place: usize, above: &mut Above) -> Result<(), NoMemory>
     requires { place < length (last_steps branch.now.log branch.now.levels) }
-    ensures stands { OnOk result ((more : List (TxnId × TxnId)) → StandsBelow branch.now.parts (more ++ sides_after (taken_before branch.now.log branch.now.levels) (take (place + 1) (last_steps branch.now.log branch.now.levels))) above.old
-        → StandsBelow branch.now.parts (more ++ sides_after (taken_before branch.now.log branch.now.levels) (take place (last_steps branch.now.log branch.now.levels))) above.new) }
+    ensures stands { OnOk result ((more : List (TxnId × TxnId)) → StandsBelow branch.now.parts (more ++ taken_up_to branch.now (place + 1)) above.old
+        → StandsBelow branch.now.parts (more ++ taken_up_to branch.now place) above.new) }
     ensures tree { OnOk result (above.new.tree ≡ above.old.tree) }
 {
     // Laws that the proof cites. They do nothing when they run.

@@ -1,7 +1,8 @@
 -- A tree, and steps that stand above it.
-use Rattle.std.specs.Prelude.{reverse}
+use Rattle.std.specs.Prelude.{◌∷◌, reverse}
+use Rattle.txn.specs.declared.choices.ForceStep.{ForceStep}
 use Rattle.order_check.specs.declared.remainder.Parts.{Parts}
-use Rattle.order_check.specs.Cycles.{Sides, AreForced, sides_after}
+use Rattle.order_check.specs.Cycles.{Sides, IsForced, AreForced, side_taken, sides_after}
 use Rattle.refutation.specs.declared.above.Above.{Above}
 use Rattle.refutation.specs.Pruned.{AreAmong}
 use Rattle.refutation.specs.Refutes.{Refutes}
@@ -12,3 +13,7 @@ pub record StandsBelow (parts : Parts) (taken : Sides) (above : Above) : Type 0 
   pub forced : AreForced parts above.used (reverse above.steps.items)
   pub right : Refutes parts above.tree (sides_after above.used (reverse above.steps.items))
   pub among : AreAmong above.used taken
+
+-- With the step put before the others, what stood below it stands below what it is forced from.
+abbrev pub IsPutAbove : ForceStep → Above → Above → Type 0
+IsPutAbove step old new = (parts : Parts) (before : Sides) → IsForced parts before step → StandsBelow parts (side_taken step ∷ before) old → StandsBelow parts before new

@@ -3,7 +3,7 @@ ghost use Rattle.txn.specs.declared.transactions.TxnId.{TxnId};
 ghost use Rattle.txn.specs.declared.choices.ForceStep.{ForceStep};
 ghost use Rattle.order_check.specs.declared.remainder.Parts.{Parts};
 ghost use Rattle.order_check.specs.Cycles.{IsForced, side_taken};
-ghost use Rattle.refutation.specs.Above.{StandsBelow};
+ghost use Rattle.refutation.specs.Above.{IsPutAbove, StandsBelow};
 ghost use Rattle.refutation.specs.Pruned.{Stands};
 ghost use Rattle.refutation.specs.Refutes.{depth_of};
 
@@ -60,7 +60,7 @@ impl Above {
 
     /// Puts the step before those that are there.
     pub fn put(&mut self, step: ForceStep) -> Result<(), NoMemory>
-        ensures stands { OnOk result ((parts : Parts) (before : List (TxnId × TxnId)) → IsForced parts before step → StandsBelow parts (side_taken step ∷ before) self.old → StandsBelow parts before self.new) }
+        ensures stands { OnOk result (IsPutAbove step self.old self.new) }
         ensures tree { OnOk result (self.new.tree ≡ self.old.tree) }
     {
         self.used.remove(side_taken(&step));

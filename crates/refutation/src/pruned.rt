@@ -5,8 +5,8 @@ ghost use Rattle.order_check.specs.declared.remainder.Parts.{Parts};
 ghost use Rattle.order_check.specs.Cycles.{IsForced, AreForced, sides_after, side_taken};
 ghost use Rattle.order_check.specs.Known.{IsChoice};
 ghost use Rattle.refutation.specs.declared.trees.Tree.{Close};
-ghost use Rattle.refutation.specs.Above.{StandsBelow};
-ghost use Rattle.refutation.specs.Pruned.{AreAmong, Stands};
+ghost use Rattle.refutation.specs.Above.{IsPutAbove, StandsBelow};
+ghost use Rattle.refutation.specs.Pruned.{AreAmong, Stands, StandsAboveSteps, StandsOverSplit};
 ghost use Rattle.refutation.specs.Refutes.{IsClosed, depth_of};
 
 use crate::above::Above;
@@ -36,7 +36,7 @@ fn copy_of_step(step: &ForceStep) -> Result<ForceStep, NoMemory>
 
 /// Puts the step before those that are there, if its side is used behind it.
 fn put_used(above: &mut Above, step: &ForceStep) -> Result<(), NoMemory>
-    ensures stands { OnOk result ((parts : Parts) (before : List (TxnId × TxnId)) → IsForced parts before step.now → StandsBelow parts (side_taken step.now ∷ before) above.old → StandsBelow parts before above.new) }
+    ensures stands { OnOk result (IsPutAbove step.now above.old above.new) }
     ensures tree { OnOk result (above.new.tree ≡ above.old.tree) }
 {
     if above.needs(step.choice, step.side) {
@@ -72,7 +72,7 @@ impl Pruned {
 
     /// The steps whose sides are used behind them, above the rest; where there are none, the rest.
     pub fn above(alloc: Global, steps: &[ForceStep], rest: Pruned) -> Result<Pruned, NoMemory>
-        ensures stands { IfOk result (λ whole. (parts : Parts) (taken : List (TxnId × TxnId)) → AreForced parts taken steps.now → Stands parts (sides_after taken steps.now) rest → Stands parts taken whole) }
+        ensures stands { IfOk result (StandsAboveSteps steps.now rest) }
         ensures depth { IfOk result (λ whole. depth_of whole.tree ≤ depth_of rest.tree + 1) }
     {
         let mut above = Above::of(alloc, rest);
@@ -96,7 +96,7 @@ impl Pruned {
         first: Pruned,
         second: Pruned,
     ) -> Result<Pruned, NoMemory>
-        ensures stands { IfOk result (λ whole. (parts : Parts) (taken : List (TxnId × TxnId)) → IsChoice parts choice → Stands parts (first_side choice ∷ taken) first → Stands parts (second_side choice ∷ taken) second → Stands parts taken whole) }
+        ensures stands { IfOk result (StandsOverSplit choice first second) }
         ensures depth { IfOk result (λ whole. depth_of whole.tree ≤ max (depth_of first.tree) (depth_of second.tree) + 1) }
     {
         if !first.uses(first_side(choice)) {

@@ -1,6 +1,6 @@
 -- Which replies to a step are right, and what they lead to, by the engine alone: whatever parts it has, also such as stand for
 -- no whole history.
-use Rattle.std.specs.Prelude.{◌≡◌, ℕ, ◌+◌, ◌-◌, ◌<◌, ◌≤◌, ◌^◌, ◌⊎◌, ⊤, true, List, [], ◌∷◌, length, slice_get, Option, Some, None, IsSome, IsSomeAnd, sum_by, nat_eq, if◌then◌else◌}
+use Rattle.std.specs.Prelude.{◌≡◌, ℕ, ◌+◌, ◌-◌, ◌<◌, ◌≤◌, ◌^◌, ◌⊎◌, ⊤, true, List, [], ◌∷◌, length, slice_get, Option, Some, None, IsSome, IsSomeAnd, Result, MatchResult, sum_by, nat_eq, if◌then◌else◌}
 use Rattle.txn.specs.declared.transactions.Fragment.{Fragment}
 use Rattle.txn.specs.declared.refusals.Refusal.{Refusal}
 use Rattle.txn.specs.declared.refusals.Refusal.TheVariants.{BadSession, Closed, Gap, Repeat, Backlog, TooLong, RoundOpen, NoRound, BadCertificate, NoCut, NoMemory, NotAnchored}
@@ -177,6 +177,10 @@ IsHeldAfter parts kinds.Pending old new = IsFound parts new
 IsHeldAfter parts kinds.Violated old new = new ≡ old
 IsHeldAfter parts kinds.Spent old new = new ≡ old
 
+-- The open round is finished by an answer: the report is on what was asked, and the cut that its order shows is held.
+abbrev pub IsReported : EngineState → Answer → Report → EngineState → Type 0
+IsReported old answer report new = IsSomeAnd old.asked (λ parts. IsReportOn parts (old.rounds + 1) answer report × IsHeldAfter parts report.kind old.held new.held) × IsFinished old new
+
 -- The cut that was held is applied to the parts, also where more has arrived since it was found, and none is held.
 pub record IsTruncated (old : EngineState) (cut : Cut) (new : EngineState) : Type 0 where
   pub none_open : old.asked ≡ None
@@ -230,7 +234,7 @@ StepsTo old Begin reply.Done new = MayBegin old × (new ≡ engine_begun old)
 StepsTo old Begin (reply.Refused refusal) new = IsBeginRefusal old refusal × (new ≡ old)
 StepsTo old (Finish budget depth workers) (reply.Report report) new = IsSomeAnd old.asked (λ parts. IsRightReport old parts budget depth report × IsHeldAfter parts report.kind old.held new.held) × IsFinished old new
 StepsTo old (Finish budget depth workers) (reply.Refused refusal) new = IsSolvedRefusal old refusal × (new ≡ old)
-StepsTo old (Judge claim) (reply.Report report) new = IsSomeAnd old.asked (λ parts. IsReportOn parts (old.rounds + 1) (answer_claimed claim) report × IsHeldAfter parts report.kind old.held new.held) × IsFinished old new
+StepsTo old (Judge claim) (reply.Report report) new = IsReported old (answer_claimed claim) report new
 StepsTo old (Judge claim) (reply.Refused refusal) new = IsFinishRefusal old (answer_claimed claim) refusal × (new ≡ old)
 StepsTo old Abandon reply.Done new = IsSome old.asked × (new ≡ engine_abandoned old)
 StepsTo old Abandon (reply.Refused refusal) new = IsAbandonRefusal old refusal × (new ≡ old)
@@ -239,6 +243,11 @@ StepsTo old Truncate (reply.Refused refusal) new = IsTruncateRefusal old refusal
 StepsTo old Rebuild reply.Done new = (old.asked ≡ None) × (new ≡ engine_rebuilt old)
 StepsTo old Rebuild (reply.Refused refusal) new = IsRebuildRefusal old refusal × (new ≡ old)
 StepsTo old step other new = ⊥
+
+-- A report or a refusal is a right reply to a finish by a search of this budget and depth, whatever workers share it.
+abbrev pub IsRightFinish : EngineState → ℕ → ℕ → ℕ → Result Report Refusal → EngineState → Type 0
+IsRightFinish old budget depth workers result new =
+    MatchResult result (λ report. StepsTo old (Finish budget depth workers) (reply.Report report) new) (λ refusal. StepsTo old (Finish budget depth workers) (reply.Refused refusal) new)
 
 -- Step after step, each reply is right.
 abbrev pub RunsTo : EngineState → List Step → List StepReply → EngineState → Type 0

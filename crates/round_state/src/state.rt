@@ -1,16 +1,16 @@
 ghost use Rattle.std.specs.Prelude.{◌≡◌, ◌+◌, length, sum_by, Some, None, IfOk, IfErr, OnOk, IsSome, IsSomeAnd, MatchBool, MatchOption};
 ghost use Rattle.txn.specs.History.{History};
-ghost use Rattle.txn.specs.Transactions.{IsWellFormedFragment};
 ghost use Rattle.logged_fragments.specs.Effects.{effects};
 ghost use Rattle.settle.specs.declared.cuts.Cut.{Cut};
 ghost use Rattle.order_check.specs.Good.{IsGood};
 ghost use Rattle.order_check.specs.StandsFor.{IsOpenSession, StandsFor};
 ghost use Rattle.round_state.specs.Opening.{IsSessions, IsLimit, IsOpenRefusal, IsPartsRefusal, fresh, fresh_state};
-ghost use Rattle.round_state.specs.Steps.{IsAdmitted, IsJoinRefusal, IsLetIn, IsOfferRefusal, IsCloseRefusal, MayBegin, IsBeginRefusal, IsFinishRefusal, IsAbandonRefusal, IsRebuildRefusal, IsTruncateRefusal, IsTruncated, IsFinished, IsHeldAfter, engine_joined, engine_offered, engine_closed, engine_begun, engine_abandoned, engine_rebuilt};
+ghost use Rattle.round_state.specs.Steps.{IsJoinRefusal, IsOfferRefusal, IsCloseRefusal, MayBegin, IsBeginRefusal, IsFinishRefusal, IsAbandonRefusal, IsRebuildRefusal, IsReported, IsTruncateRefusal, IsTruncated, StepsTo, engine_closed, engine_begun, engine_abandoned, engine_rebuilt};
 ghost use Rattle.round_state.specs.EngineState.{engine_over};
 ghost use Rattle.round_state.specs.Runs.{Holds};
 ghost use Rattle.round_state.specs.Kept.{IsFitting};
-ghost use Rattle.round_state.specs.Solving.{IsReportOn};
+ghost use Rattle.round_state.specs.declared.steps.Step.TheVariants as step;
+ghost use Rattle.round_state.specs.declared.steps.StepReply.TheVariants as reply;
 
 use crate::catching_up::{known_after_cut, known_of, known_to_cut};
 use crate::fronts::kept_cuts_fit;
@@ -152,7 +152,7 @@ impl Engine {
     /// reads and transactions times the logarithm of the pending reads, however much remains. What a transaction that aborted has read
     /// and written is judged as that of any other; then it counts as one that did nothing.
     pub fn offer(&mut self, alloc: Global, logged: LoggedFragment) -> Result<(), Refusal>
-        ensures ok { OnOk result (IsWellFormedFragment self.old.parts.most_sessions logged.fragment × IsAdmitted self.old.parts (effects logged) × (self.new ≡ engine_offered self.old (effects logged))) }
+        ensures ok { OnOk result (StepsTo self.old (step.Offer logged) reply.Done self.new) }
         ensures err { IfErr result (λ refusal. IsOfferRefusal self.old.parts logged refusal × (self.new ≡ self.old)) }
     {
         // Laws that the proof cites. They do nothing when they run.
@@ -175,7 +175,7 @@ impl Engine {
     /// remains, or from the last gone writer of the epoch key; one that aborted is no fence. After it the session is open, and a cut
     /// that was held is dropped.
     pub fn join(&mut self, alloc: Global, logged: LoggedFragment) -> Result<(), Refusal>
-        ensures ok { OnOk result (IsWellFormedFragment self.old.parts.most_sessions logged.fragment × (self.old.asked ≡ None) × IsLetIn self.old.parts (effects logged) × (self.new ≡ engine_joined self.old (effects logged))) }
+        ensures ok { OnOk result (StepsTo self.old (step.Join logged) reply.Done self.new) }
         ensures err { IfErr result (λ refusal. IsJoinRefusal self.old logged refusal × (self.new ≡ self.old)) }
     {
         let fragment = effects_of(self.parts.most_sessions, logged)?;
@@ -230,7 +230,7 @@ impl Engine {
     /// Finishes the open round by an answer, which is checked here. A wrong answer and want of memory leave it open. A yes replaces the held
     /// cut by the one found in the snapshot, or by none.
     pub fn finish(&mut self, alloc: Global, answer: Answer) -> Result<Report, Refusal>
-        ensures ok { IfOk result (λ report. IsSomeAnd self.old.asked (λ parts. IsReportOn parts (self.old.rounds + 1) answer report × IsHeldAfter parts report.kind self.old.held self.new.held) × IsFinished self.old self.new) }
+        ensures ok { IfOk result (λ report. IsReported self.old answer report self.new) }
         ensures err { IfErr result (λ refusal. IsFinishRefusal self.old answer refusal × (self.new ≡ self.old)) }
     {
         // A law that the proof cites. It does nothing when it runs.

@@ -1,9 +1,9 @@
-ghost use Rattle.std.specs.Prelude.{◌≡◌, ℕ, ◌<◌, ◌≤◌, [], ◌∷◌, ◌++◌, All, IfOk, IfSome, OnErr, MatchResult, vec_len, vec_capacity};
+ghost use Rattle.std.specs.Prelude.{◌≡◌, ℕ, ◌<◌, ◌≤◌, [], ◌∷◌, ◌++◌, All, IfOk, IfSome, OnErr, vec_len, vec_capacity};
 ghost use Rattle.order_check.specs.Effort.{IsEffort};
 ghost use Rattle.polygraph.specs.Solving.{IsLawful};
 ghost use Rattle.round_state.specs.EngineState.{EngineState};
 ghost use Rattle.round_state.specs.Runs.{HasLimits, StepsLegally, RunsLegally};
-ghost use Rattle.round_state.specs.Steps.{StepsTo, RunsTo, answer_claimed, answer_told};
+ghost use Rattle.round_state.specs.Steps.{IsRightFinish, StepsTo, RunsTo, answer_claimed, answer_told};
 
 use crate::reports::Report;
 use crate::state::Engine;
@@ -137,7 +137,7 @@ impl Engine {
     /// want of memory, or because no round is open. The report tells that very answer.
     pub fn finish_lawfully(&mut self, alloc: Global, answer: Answer) -> Result<Report, Refusal>
         ensures told { IfOk result (λ report. answer_told report.certificate ≡ answer) }
-        ensures right { (budget depth workers : ℕ) → IfSome self.old.asked (λ parts. IsLawful parts budget depth answer) → MatchResult result (λ report. StepsTo self.old (Step.Finish budget depth workers) (StepReply.Report report) self.new) (λ refusal. StepsTo self.old (Step.Finish budget depth workers) (StepReply.Refused refusal) self.new) }
+        ensures right { (budget depth workers : ℕ) → IfSome self.old.asked (λ parts. IsLawful parts budget depth answer) → IsRightFinish self.old budget depth workers result self.new }
     {
         refuted_has_no_order();
         self.has_good_snapshot();

@@ -88,7 +88,8 @@ pub(crate) fn are_behind(first: &[Vec<u64>], were: &[u64], received: &[u64], gon
     requires sessions { length gone.now ≡ length were.now }
     requires received { length received.now ≡ length were.now }
     requires rows { (session : ℕ) → session < length gone.now → slice_index gone.now session < slice_index received.now session → HasRow were.now first.now (first_left gone.now session) }
-    ensures { IsTrue result ↔ ((session : ℕ) → session < length gone.now → slice_index gone.now session < slice_index received.now session → IsBehind were.now first.now gone.now (first_left gone.now session)) }
+    ensures { IsTrue result ↔ ((session : ℕ) → session < length gone.now → slice_index gone.now session < slice_index received.now session
+        → IsBehind were.now first.now gone.now (first_left gone.now session)) }
 {
     for session in 0..gone.len() {
         if received[session] <= gone[session] {

@@ -245,7 +245,8 @@ impl Nodes {
         requires within { (session : ℕ) → session < length self.old.keys.items → slice_index gone.now session - slice_index were.now session ≤ length (line_at self.old.keys.items session) }
         ensures nodes { (key : ℕ) → id_at self.new.nodes.slots key ≡ left_in gone.now (id_at self.old.nodes.slots key) }
         ensures sessions { length self.new.keys.items ≡ length self.old.keys.items }
-        ensures keys { (session : ℕ) → session < length self.old.keys.items → IsDropped (line_at self.old.keys.items session) (line_at self.new.keys.items session) (slice_index gone.now session - slice_index were.now session) }
+        ensures keys { (session : ℕ) → session < length self.old.keys.items
+            → IsDropped (line_at self.old.keys.items session) (line_at self.new.keys.items session) (slice_index gone.now session - slice_index were.now session) }
     {
         drop_nodes(&mut self.nodes, gone);
         drop_keys(&mut self.keys, were, gone);

@@ -134,7 +134,8 @@ pub(crate) fn walk(
 ) -> Result<Sequence<Arc>, NoMemory>
     requires nearer { AreNearer goal tree.now }
     requires leads { LeadsOn goal tree.now start }
-    ensures { IfOk result (λ path. (gone received : List ℕ) → IsThere gone received start → IsThere gone received goal → All (IsBetween gone received) tree.now → IsPathOf gone received tree.now start path goal) }
+    ensures { IfOk result (λ path. (gone received : List ℕ) → IsThere gone received start → IsThere gone received goal
+        → All (IsBetween gone received) tree.now → IsPathOf gone received tree.now start path goal) }
 {
     let mut path = Vec::new(alloc);
     let mut here = start;
