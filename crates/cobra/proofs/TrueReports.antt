@@ -64,7 +64,7 @@ use Rattle.whole_orders.specs.Isolated.{EndsSnapshotOrder}
 use Rattle.whole_orders.specs.Laws.{FreshEnginesGoOn, LeftPartsGoOn, ReportedOrdersEndOrders, StepsGoOn}
 use Rattle.whole_orders.specs.Left.{EndsOrder, EndsOrderIfAny, HoldsLeft, IsLeftOf}
 use Rattle.engine_pasts.specs.Holding.{HoldsBehind, MovesOn, StandsBehind}
-use Rattle.engine_pasts.specs.Laws.{FreshEnginesHoldBehind, HalvesAreToldBehind, PartsHoldBehind, ReportedOrdersStandBehind, StepsHoldBehind, ToldBehind}
+use Rattle.engine_pasts.specs.Laws.{FreshEnginesHoldBehind, HalvesAreToldBehind, PartsHoldBehind, ReportedOrdersStandBehind, StepsHoldBehind}
 use Rattle.strict_offers.specs.Offers.{OfferedState}
 use Rattle.cobra.specs.Audits.{AuditState}
 use Rattle.cobra.specs.HandOver.{handed_parts}
@@ -72,7 +72,7 @@ use Rattle.cobra.specs.Outputs.{RepliesAll}
 use Rattle.cobra.specs.Saving.{saved_told, fragment_told}
 use Rattle.cobra.specs.Scripts.{IsBadLine, IsTakenIn, Goes, IsStep, EndsRound, IsRound, AnswersOpen, AnswersBeside, AnswersIsolated, AnswersStrict, GoesOn, IsCollected, state_told, AnswersFirst, BeginsAnew, AnswersResuming, AnswersHanding, HandsMarks, HandsOffer, EndsHandOver, Answers, TakesHalves, TakesMarks, TakesOver, stage_after}
 use Rattle.cobra.specs.StepReplies.{claim_of, certified, reply_of}
-use Rattle.cobra.specs.TrueReports.{Accepted, Origin, accepted_more, accepted_after, moved, reported_on, TellsTrueOf, MovesTxns, MovesHalves, IsKept, IsTrueTold, BeginsWith, AreTrueReplies, EachReportIsTrue}
+use Rattle.cobra.specs.TrueReports.{Accepted, Origin, accepted_more, accepted_after, moved, reported_on, TellsTrueOf, MovesTxns, MovesHalves, IsKept, IsKeptSplit, IsTrueTold, BeginsWith, AreTrueReplies, EachReportIsTrue}
 use Rattle.cobra.specs.declared.handing.Handing.{Handing}
 use Rattle.cobra.specs.declared.stages.Stage.{Stage}
 use Rattle.cobra.specs.declared.stages.Stage.TheVariants as stage
@@ -852,10 +852,10 @@ fits_still (stage.Resuming sessions limit opening) (Some accepted) fits = absurd
 fits_still (stage.Handing handed opening) (Some accepted) fits = absurd fits
 
 -- what is kept stands behind what is gone
-kept_open : Laws → (old : AuditState) (accepted : Accepted) → StandsSplit old.engine accepted → IfSome accepted.past (λ gone. HistoryCanBeSplit accepted.whole × HistoryCanBeSplit accepted.asked × ToldBehind gone old.engine accepted.whole accepted.asked)
+kept_open : Laws → (old : AuditState) (accepted : Accepted) → StandsSplit old.engine accepted → IfSome accepted.past (λ gone. IsKeptSplit gone old.engine accepted.whole accepted.asked)
 kept_open laws old accepted stands =
-    some_map accepted.past (λ gone. HoldsBehind gone old.engine (split_history accepted.whole) (split_history accepted.asked)) (λ gone. HistoryCanBeSplit accepted.whole × HistoryCanBeSplit accepted.asked × ToldBehind gone old.engine accepted.whole accepted.asked)
-    (λ gone holds. (stands.holds.whole, stands.holds.asked, laws.halves gone old.engine accepted.whole accepted.asked holds)) stands.behind
+    some_map accepted.past (λ gone. HoldsBehind gone old.engine (split_history accepted.whole) (split_history accepted.asked)) (λ gone. IsKeptSplit gone old.engine accepted.whole accepted.asked)
+    (λ gone holds. (stands.holds.whole, stands.holds.asked, holds, laws.halves gone old.engine accepted.whole accepted.asked holds)) stands.behind
 
 are_kept : Laws → (old : Stage) (accepted : Option Accepted) → Fits old accepted → IsKept old accepted
 are_kept laws old None fits = tt

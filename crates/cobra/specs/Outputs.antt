@@ -1,5 +1,6 @@
 -- The output of a script: a line for each of its lines.
-use Rattle.std.specs.Prelude.{◌≡◌, ℕ, ◌-◌, ◌<◌, ◌≤◌, ◌⊎◌, List, [], ◌∷◌, ◌++◌, length, take, slice_get, Option, Some}
+use Rattle.std.specs.Prelude.{◌≡◌, ℕ, ◌-◌, ◌<◌, ◌≤◌, ◌⊎◌, List, [], ◌∷◌, ◌++◌, length, take, slice_get, Option, Some, IfSome}
+use Rattle.std.specs.Io.KnownBytes.{Appends}
 use Rattle.std.specs.List.{concat}
 use Rattle.log_text.specs.declared.commands.Command.{Command}
 use Rattle.log_text.specs.declared.replies.Reply.{Reply}
@@ -43,6 +44,10 @@ IsOutputOf asked output end = (texts : List (List ℕ)) × RepliesAll Nothing as
 -- the joined texts of replies to all lines of the input
 abbrev pub IsOutput : List ℕ → List ℕ → Type 0
 IsOutput input output = (end : Stage) × IsOutputOf (lines input) output end
+
+-- Where it is told what was to be read, something that is an output of it in this sense was written.
+abbrev pub Writes : (List ℕ → List ℕ → Type 0) → Option (List ℕ) → Option (List ℕ) → Option (List ℕ) → Type 0
+Writes IsOf input before after = IfSome input (λ script. (output : List ℕ) × IsOf script output × Appends before after output)
 
 -- how many lines were read to their end, which is an LF (10) or the end of input
 abbrev pub lines_read : List ℕ → List ℕ → ℕ
@@ -97,3 +102,11 @@ AnswersNext old next answer new = (line : List ℕ) → IsTold line next → IsA
 -- the same of the reply's text
 abbrev pub RepliesTo : Stage → Next → List ℕ → Stage → Type 0
 RepliesTo old next text new = (line : List ℕ) → IsTold line next → Replies old line text new
+
+-- it is written
+abbrev pub WritesReply : Stage → Next → Stage → Option (List ℕ) → Option (List ℕ) → Type 0
+WritesReply old next new before after = (text : List ℕ) × RepliesTo old next text new × Appends before after text
+
+-- or a proper front of it is
+abbrev pub WritesFrontOfReply : Stage → Next → Stage → Option (List ℕ) → Option (List ℕ) → Type 0
+WritesFrontOfReply old next new before after = (text : List ℕ) × (n : ℕ) × RepliesTo old next text new × (n < length text) × Appends before after (take n text)

@@ -1,5 +1,6 @@
--- What the arguments of a program ask for.
-use Rattle.std.specs.Prelude.{ℕ, List, [], ◌∷◌, bytes_eq, codes, if◌then◌else◌}
+-- What the arguments of a program ask for, and what is written of it.
+use Rattle.std.specs.Prelude.{ℕ, ◌<◌, List, [], ◌∷◌, length, take, bytes_eq, codes, if◌then◌else◌, Option}
+use Rattle.std.specs.Io.KnownBytes.{Appends}
 use Rattle.cobra.specs.declared.programs.Asked.{Asked}
 use Rattle.cobra.specs.declared.programs.Asked.TheVariants.{Work, Help, Version, Unknown}
 
@@ -12,3 +13,7 @@ asked_by [] = Work
 asked_by (name ∷ []) = Work
 asked_by (name ∷ word ∷ []) = asked_by_word word
 asked_by (name ∷ word ∷ other ∷ rest) = Unknown
+
+-- a proper front of a text is written
+abbrev pub AppendsPart : Option (List ℕ) → Option (List ℕ) → List ℕ → Type 0
+AppendsPart before after text = (n : ℕ) × (n < length text) × Appends before after (take n text)

@@ -14,6 +14,7 @@ use Rattle.log_text.specs.declared.replies.Reply.{Reply}
 use Rattle.log_text.specs.declared.replies.Reply.TheVariants as told
 use Rattle.log_text.specs.Replies.{line_of}
 use Rattle.log_text.specs.declared.versions.Opening.TheVariants.{Ordered, Isolated}
+use Rattle.round_state.specs.EngineState.{EngineState}
 use Rattle.round_state.specs.Legal.{IsTrueOf}
 use Rattle.round_state.specs.Opening.{no_history}
 use Rattle.round_state.specs.Steps.{arrival_of}
@@ -88,12 +89,17 @@ TellsTrueOf left past history (told.Broken round counts tree) = (counts ≡ map 
 TellsTrueOf left past history (told.Spent round counts) = counts ≡ map length history
 TellsTrueOf left past history other = ⊤
 
--- What the engine of a script holds remains of what was accepted, behind what is gone, in this order; or, where transactions are split, tells of it,
--- behind the begins and commits that are gone, exactly, since each transaction of it can be split: so what a show, a save and a cut tell of is that.
--- The open round's snapshot is one of what was accepted when the round began, behind the same.
+-- Where transactions are split: each of those accepted can be; the halves that an engine holds remain of theirs, behind the halves that are gone, in
+-- this order; and they tell of the transactions, behind the begins and commits that are gone, exactly.
+abbrev pub IsKeptSplit : List TxnId → EngineState → History → History → Type 0
+IsKeptSplit gone engine whole asked =
+    HistoryCanBeSplit whole × HistoryCanBeSplit asked × HoldsBehind gone engine (split_history whole) (split_history asked) × ToldBehind gone engine whole asked
+
+-- What the engine of a script holds remains of what was accepted, behind what is gone, in this order, split or not: so what a show, a save and a cut
+-- tell of is that. The open round's snapshot is one of what was accepted when the round began, behind the same.
 abbrev pub IsKeptBehind : Stage → List TxnId → Accepted → Type 0
 IsKeptBehind (stage.Open audit version) gone accepted = HoldsBehind gone audit.engine accepted.whole accepted.asked
-IsKeptBehind (stage.Isolated audit version) gone accepted = HistoryCanBeSplit accepted.whole × HistoryCanBeSplit accepted.asked × ToldBehind gone audit.engine accepted.whole accepted.asked
+IsKeptBehind (stage.Isolated audit version) gone accepted = IsKeptSplit gone audit.engine accepted.whole accepted.asked
 IsKeptBehind other gone accepted = ⊥
 
 -- the same of a script, once an engine is open and where the order of what is gone is known

@@ -1,8 +1,9 @@
-ghost use Rattle.std.specs.Prelude.{◌≡◌, ◌≢◌, ℕ, ◌+◌, ◌<◌, length, take, Ok, Err, Some, None, codes, map, option_map, string_bytes, IfOk, IfErr, OnOk, OnErr, IsErrOf};
+ghost use Rattle.std.specs.Prelude.{◌≡◌, ◌≢◌, ◌+◌, Ok, Err, Some, None, codes, map, string_bytes, IfOk, IfErr, OnOk, OnErr, IsErrOf};
 ghost use Rattle.std.specs.Io.KnownBytes.{Appends};
 ghost use Rattle.std.specs.IoError.{error_kind};
 ghost use Rattle.std.specs.Vec.Iter.{into_iter_items};
-ghost use Rattle.cobra.specs.Programs.{asked_by, asked_by_word};
+ghost use Rattle.byte_lines.specs.Exits.{exit_words};
+ghost use Rattle.cobra.specs.Programs.{AppendsPart, asked_by, asked_by_word};
 
 use byte_lines::{ByteSink, Exit, Failure, write_all};
 use std::alloc::Global;
@@ -66,7 +67,7 @@ pub fn tell<W: ByteSink>(sink: &mut W, text: &str) -> Result<(), Failure>
     ensures written { OnOk result (Appends (W.contents sink.old) (W.contents sink.new) text.now) }
 
     // A proper front of the text is written.
-    ensures front { OnErr result ((n : ℕ) × (n < length text.now) × Appends (W.contents sink.old) (W.contents sink.new) (take n text.now)) }
+    ensures front { OnErr result (AppendsPart (W.contents sink.old) (W.contents sink.new) text.now) }
     ensures failed { IfErr result (λ failure. (failure ≡ Failure.Device) × (W.faults sink.new ≡ W.faults sink.old + 1)) }
 {
     write_all(sink, text.as_bytes())?;
@@ -77,8 +78,8 @@ pub fn exit_of(end: Result<(), Failure>) -> Exit
     ensures done { OnOk end (result.status ≡ 0) }
     ensures silent { OnOk end (result.words ≡ None) }
     ensures failed { OnErr end (result.status ≡ 1) }
-    ensures device { IsErrOf end Failure.Device → option_map (λ words. words.now) result.words ≡ Some (codes "device failed") }
-    ensures memory { IsErrOf end Failure.NoMemory → option_map (λ words. words.now) result.words ≡ Some (codes "out of memory") }
+    ensures device { IsErrOf end Failure.Device → exit_words result ≡ Some (codes "device failed") }
+    ensures memory { IsErrOf end Failure.NoMemory → exit_words result ≡ Some (codes "out of memory") }
 {
     match end {
         Ok(()) => Exit {

@@ -111,7 +111,8 @@ fn answer_finish<P: PlainSolver, S: Solver>(
     requires plain { P.ready }
     requires guided { S.ready }
     requires effort { IsEffort effort.budget effort.depth effort.workers }
-    ensures { IfOk result (λ answer. FinishesAlone audit.old answer audit.new (AnswersOpen version audit.old.engine (Command.Finish effort.budget effort.depth effort.workers effort.search) answer audit.new.engine)) }
+    ensures { IfOk result (λ answer. FinishesAlone audit.old answer audit.new
+        (AnswersOpen version audit.old.engine (Command.Finish effort.budget effort.depth effort.workers effort.search) answer audit.new.engine)) }
 {
     if audit.is_searched() {
         return Ok(Reply::No(Refusal::RoundOpen));
@@ -130,7 +131,8 @@ fn answer_round<E, R: Threads, P: PlainSolver, S: Solver>(
     requires plain { P.ready }
     requires guided { S.ready }
     requires effort { IsEffort effort.budget effort.depth effort.workers }
-    ensures { IfOk result (λ answer. AnswersOpen version audit.old.engine (Command.Round effort.budget effort.depth effort.workers effort.search) answer audit.new.engine × (audit.new.search ≡ search_after audit.old.search audit.new.engine.asked)) }
+    ensures { IfOk result (λ answer. AnswersOpen version audit.old.engine (Command.Round effort.budget effort.depth effort.workers effort.search) answer audit.new.engine
+        × (audit.new.search ≡ search_after audit.old.search audit.new.engine.asked)) }
 {
     let said = audit.round(means.rt, means.alloc, effort, means.solvers);
     reply_of(means.alloc, said)

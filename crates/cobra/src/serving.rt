@@ -1,6 +1,7 @@
-ghost use Rattle.std.specs.Prelude.{◌≡◌, ℕ, ◌+◌, ◌<◌, ◌⊎◌, List, [], length, take, Some, IfSome, OnOk, IsErrOf};
-ghost use Rattle.std.specs.Io.KnownBytes.{Appends, Keeps};
-ghost use Rattle.cobra.specs.Outputs.{IsOutput, StopsForMemory, StopsReading, StopsWriting, RepliesTo};
+ghost use Rattle.std.specs.Prelude.{◌≡◌, ◌+◌, ◌<◌, [], Some, IfSome, OnOk, IsErrOf};
+ghost use Rattle.std.specs.Io.KnownBytes.{Keeps};
+ghost use Rattle.byte_lines.specs.Faults.{NoneFailed, OneFailed};
+ghost use Rattle.cobra.specs.Outputs.{IsOutput, StopsForMemory, StopsReading, StopsWriting, Writes, WritesFrontOfReply, WritesReply};
 ghost use Rattle.cobra.specs.declared.stages.Stage.{Stage};
 
 use crate::means::Means;
@@ -18,11 +19,11 @@ fn reply_to<'s, E, T: Threads, W: ByteSink, P: PlainSolver + Sync, S: Solver + S
 ) -> Result<(), Failure>
     requires plain { P.ready }
     requires guided { S.ready }
-    ensures written { OnOk result ((text : List ℕ) × RepliesTo script.old.stage next.now text script.new.stage × Appends (W.contents sink.old) (W.contents sink.new) text) }
+    ensures written { OnOk result (WritesReply script.old.stage next.now script.new.stage (W.contents sink.old) (W.contents sink.new)) }
     ensures ok { OnOk result (W.faults sink.new ≡ W.faults sink.old) }
 
     // A proper front of the reply is written.
-    ensures front { IsErrOf result Failure.Device → ((text : List ℕ) × (n : ℕ) × RepliesTo script.old.stage next.now text script.new.stage × (n < length text) × Appends (W.contents sink.old) (W.contents sink.new) (take n text)) }
+    ensures front { IsErrOf result Failure.Device → WritesFrontOfReply script.old.stage next.now script.new.stage (W.contents sink.old) (W.contents sink.new) }
     ensures failed { IsErrOf result Failure.Device → W.faults sink.new ≡ W.faults sink.old + 1 }
 
     ensures unwritten { IsErrOf result Failure.NoMemory → Keeps (W.contents sink.old) (W.contents sink.new) }
@@ -59,16 +60,18 @@ fn serve_lines<
 
     // All of the input is read, and an output of it is written.
     ensures at_end { OnOk result (IfSome (R.remaining source.old) (λ input. R.remaining source.new ≡ Some [])) }
-    ensures whole { OnOk result (IfSome (R.remaining source.old) (λ input. (output : List ℕ) × IsOutput input output × Appends (W.contents sink.old) (W.contents sink.new) output)) }
+    ensures whole { OnOk result (Writes IsOutput (R.remaining source.old) (W.contents sink.old) (W.contents sink.new)) }
 
     // A front of an output is written.
-    ensures stops_reading { R.faults source.old < R.faults source.new → IfSome (R.remaining source.old) (λ input. (output : List ℕ) × StopsReading input (R.remaining source.new) output × Appends (W.contents sink.old) (W.contents sink.new) output) }
-    ensures stops_writing { W.faults sink.old < W.faults sink.new → IfSome (R.remaining source.old) (λ input. (output : List ℕ) × StopsWriting input (R.remaining source.new) (R.last_read source.new) output × Appends (W.contents sink.old) (W.contents sink.new) output) }
-    ensures stops_for_memory { IsErrOf result Failure.NoMemory → IfSome (R.remaining source.old) (λ input. (output : List ℕ) × StopsForMemory input (R.remaining source.new) output × Appends (W.contents sink.old) (W.contents sink.new) output) }
+    ensures stops_reading { R.faults source.old < R.faults source.new
+        → Writes (λ input. StopsReading input (R.remaining source.new)) (R.remaining source.old) (W.contents sink.old) (W.contents sink.new) }
+    ensures stops_writing { W.faults sink.old < W.faults sink.new
+        → Writes (λ input. StopsWriting input (R.remaining source.new) (R.last_read source.new)) (R.remaining source.old) (W.contents sink.old) (W.contents sink.new) }
+    ensures stops_for_memory { IsErrOf result Failure.NoMemory → Writes (λ input. StopsForMemory input (R.remaining source.new)) (R.remaining source.old) (W.contents sink.old) (W.contents sink.new) }
 
     // One of the devices failed, once, where that is the answer, and else none did.
-    ensures device { IsErrOf result Failure.Device → ((R.faults source.new ≡ R.faults source.old + 1) × (W.faults sink.new ≡ W.faults sink.old)) ⊎ ((R.faults source.new ≡ R.faults source.old) × (W.faults sink.new ≡ W.faults sink.old + 1)) }
-    ensures none_failed { ¬ IsErrOf result Failure.Device → (R.faults source.new ≡ R.faults source.old) × (W.faults sink.new ≡ W.faults sink.old) }
+    ensures device { IsErrOf result Failure.Device → OneFailed (R.faults source.old) (R.faults source.new) (W.faults sink.old) (W.faults sink.new) }
+    ensures none_failed { ¬ IsErrOf result Failure.Device → NoneFailed (R.faults source.old) (R.faults source.new) (W.faults sink.old) (W.faults sink.new) }
 {
     loop {
         let next = reader.next_line(source)?;
@@ -96,16 +99,18 @@ pub fn serve<
 
     // All of the input is read, and an output of it is written.
     ensures at_end { OnOk result (IfSome (R.remaining source.old) (λ input. R.remaining source.new ≡ Some [])) }
-    ensures whole { OnOk result (IfSome (R.remaining source.old) (λ input. (output : List ℕ) × IsOutput input output × Appends (W.contents sink.old) (W.contents sink.new) output)) }
+    ensures whole { OnOk result (Writes IsOutput (R.remaining source.old) (W.contents sink.old) (W.contents sink.new)) }
 
     // A front of an output is written.
-    ensures stops_reading { R.faults source.old < R.faults source.new → IfSome (R.remaining source.old) (λ input. (output : List ℕ) × StopsReading input (R.remaining source.new) output × Appends (W.contents sink.old) (W.contents sink.new) output) }
-    ensures stops_writing { W.faults sink.old < W.faults sink.new → IfSome (R.remaining source.old) (λ input. (output : List ℕ) × StopsWriting input (R.remaining source.new) (R.last_read source.new) output × Appends (W.contents sink.old) (W.contents sink.new) output) }
-    ensures stops_for_memory { IsErrOf result Failure.NoMemory → IfSome (R.remaining source.old) (λ input. (output : List ℕ) × StopsForMemory input (R.remaining source.new) output × Appends (W.contents sink.old) (W.contents sink.new) output) }
+    ensures stops_reading { R.faults source.old < R.faults source.new
+        → Writes (λ input. StopsReading input (R.remaining source.new)) (R.remaining source.old) (W.contents sink.old) (W.contents sink.new) }
+    ensures stops_writing { W.faults sink.old < W.faults sink.new
+        → Writes (λ input. StopsWriting input (R.remaining source.new) (R.last_read source.new)) (R.remaining source.old) (W.contents sink.old) (W.contents sink.new) }
+    ensures stops_for_memory { IsErrOf result Failure.NoMemory → Writes (λ input. StopsForMemory input (R.remaining source.new)) (R.remaining source.old) (W.contents sink.old) (W.contents sink.new) }
 
     // One of the devices failed, once, where that is the answer, and else none did.
-    ensures device { IsErrOf result Failure.Device → ((R.faults source.new ≡ R.faults source.old + 1) × (W.faults sink.new ≡ W.faults sink.old)) ⊎ ((R.faults source.new ≡ R.faults source.old) × (W.faults sink.new ≡ W.faults sink.old + 1)) }
-    ensures none_failed { ¬ IsErrOf result Failure.Device → (R.faults source.new ≡ R.faults source.old) × (W.faults sink.new ≡ W.faults sink.old) }
+    ensures device { IsErrOf result Failure.Device → OneFailed (R.faults source.old) (R.faults source.new) (W.faults sink.old) (W.faults sink.new) }
+    ensures none_failed { ¬ IsErrOf result Failure.Device → NoneFailed (R.faults source.old) (R.faults source.new) (W.faults sink.old) (W.faults sink.new) }
 {
     let mut reader = LineReader::new(means.alloc, LONGEST_LINE)?;
     let mut script = Script::new();
