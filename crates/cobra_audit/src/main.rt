@@ -1,10 +1,13 @@
 //! The auditor: reads a script on standard input, and writes the reply to each of its lines on standard output.
 #![tactic(auto)]
 
-ghost use Rattle.std.specs.Prelude.{◌≡◌, ◌≢◌, ℕ, ◌<◌, ◌⊎◌, List, length, take, codes, Ok, Err, None, Some, IfSome, OnErr, option_map};
+ghost use Rattle.std.specs.Prelude.{◌≡◌, ◌≢◌, ◌<◌, ◌⊎◌, codes, Ok, Err, None, Some, OnErr};
 ghost use Rattle.std.specs.Io.KnownBytes.{Appends, Keeps};
 ghost use Rattle.std.specs.Thread.{IsSync};
-ghost use Rattle.cobra.specs.Outputs.{IsOutput, StopsForMemory, StopsReading, StopsWriting};
+ghost use Rattle.byte_lines.specs.Exits.{exit_words};
+ghost use Rattle.byte_lines.specs.Faults.{SomeFailed};
+ghost use Rattle.cobra.specs.Outputs.{IsOutput, StopsForMemory, StopsReading, StopsWriting, Writes};
+ghost use Rattle.cobra.specs.Programs.{AppendsPart};
 
 use cobra::{
     Asked, ByteSink, ByteSource, Exit, Failure, Means, ReaderSource, Solvers, WriterSink, asked_in,
@@ -70,15 +73,18 @@ fn run<'s, E, T: Threads, H: Threads + Sync + Drop, R: ByteSource, W: ByteSink>(
     requires { IsSync H.row }
 
     // Status 0 says that the script was served to its end.
-    ensures served { asked ≡ Ok Asked.Work → result.status ≡ 0 → IfSome (R.remaining input.old) (λ script. (replies : List ℕ) × IsOutput script replies × Appends (W.contents output.old) (W.contents output.new) replies) }
+    ensures served { asked ≡ Ok Asked.Work → result.status ≡ 0 → Writes IsOutput (R.remaining input.old) (W.contents output.old) (W.contents output.new) }
 
     // Status 1 says that a device failed, or that memory ran out; the words say which, and a front of an output was written.
     ensures statuses { asked ≡ Ok Asked.Work → (result.status ≡ 0) ⊎ (result.status ≡ 1) }
-    ensures device { asked ≡ Ok Asked.Work → option_map (λ words. words.now) result.words ≡ Some (codes "device failed") → (R.faults input.old < R.faults input.new) ⊎ (W.faults output.old < W.faults output.new) }
-    ensures stops_reading { asked ≡ Ok Asked.Work → R.faults input.old < R.faults input.new → IfSome (R.remaining input.old) (λ script. (replies : List ℕ) × StopsReading script (R.remaining input.new) replies × Appends (W.contents output.old) (W.contents output.new) replies) }
-    ensures stops_writing { asked ≡ Ok Asked.Work → W.faults output.old < W.faults output.new → IfSome (R.remaining input.old) (λ script. (replies : List ℕ) × StopsWriting script (R.remaining input.new) (R.last_read input.new) replies × Appends (W.contents output.old) (W.contents output.new) replies) }
-    ensures memory { asked ≡ Ok Asked.Work → option_map (λ words. words.now) result.words ≡ Some (codes "out of memory") → IfSome (R.remaining input.old) (λ script. (replies : List ℕ) × StopsForMemory script (R.remaining input.new) replies × Appends (W.contents output.old) (W.contents output.new) replies) }
-    ensures said { result.status ≡ 1 → (option_map (λ words. words.now) result.words ≡ Some (codes "device failed")) ⊎ (option_map (λ words. words.now) result.words ≡ Some (codes "out of memory")) }
+    ensures device { asked ≡ Ok Asked.Work → exit_words result ≡ Some (codes "device failed") → SomeFailed (R.faults input.old) (R.faults input.new) (W.faults output.old) (W.faults output.new) }
+    ensures stops_reading { asked ≡ Ok Asked.Work → R.faults input.old < R.faults input.new
+        → Writes (λ script. StopsReading script (R.remaining input.new)) (R.remaining input.old) (W.contents output.old) (W.contents output.new) }
+    ensures stops_writing { asked ≡ Ok Asked.Work → W.faults output.old < W.faults output.new
+        → Writes (λ script. StopsWriting script (R.remaining input.new) (R.last_read input.new)) (R.remaining input.old) (W.contents output.old) (W.contents output.new) }
+    ensures memory { asked ≡ Ok Asked.Work → exit_words result ≡ Some (codes "out of memory")
+        → Writes (λ script. StopsForMemory script (R.remaining input.new)) (R.remaining input.old) (W.contents output.old) (W.contents output.new) }
+    ensures said { result.status ≡ 1 → (exit_words result ≡ Some (codes "device failed")) ⊎ (exit_words result ≡ Some (codes "out of memory")) }
 
     // And nothing is said where what was asked for is done, whatever was reported.
     ensures silent { result.status ≡ 0 → result.words ≡ None }
@@ -86,12 +92,13 @@ fn run<'s, E, T: Threads, H: Threads + Sync + Drop, R: ByteSource, W: ByteSink>(
     // The text is written, or a front of it where the device failed.
     ensures help { asked ≡ Ok Asked.Help → result.status ≡ 0 → Appends (W.contents output.old) (W.contents output.new) HELP.now }
     ensures version { asked ≡ Ok Asked.Version → result.status ≡ 0 → Appends (W.contents output.old) (W.contents output.new) VERSION.now }
-    ensures help_front { asked ≡ Ok Asked.Help → result.status ≢ 0 → (n : ℕ) × (n < length HELP.now) × Appends (W.contents output.old) (W.contents output.new) (take n HELP.now) }
-    ensures version_front { asked ≡ Ok Asked.Version → result.status ≢ 0 → (n : ℕ) × (n < length VERSION.now) × Appends (W.contents output.old) (W.contents output.new) (take n VERSION.now) }
-    ensures printed { (asked ≡ Ok Asked.Help) ⊎ (asked ≡ Ok Asked.Version) → (result.status ≡ 0) ⊎ ((result.status ≡ 1) × (option_map (λ words. words.now) result.words ≡ Some (codes "device failed")) × (W.faults output.old < W.faults output.new)) }
+    ensures help_front { asked ≡ Ok Asked.Help → result.status ≢ 0 → AppendsPart (W.contents output.old) (W.contents output.new) HELP.now }
+    ensures version_front { asked ≡ Ok Asked.Version → result.status ≢ 0 → AppendsPart (W.contents output.old) (W.contents output.new) VERSION.now }
+    ensures printed { (asked ≡ Ok Asked.Help) ⊎ (asked ≡ Ok Asked.Version)
+        → (result.status ≡ 0) ⊎ ((result.status ≡ 1) × (exit_words result ≡ Some (codes "device failed")) × (W.faults output.old < W.faults output.new)) }
 
     // Other arguments: nothing is written but how the program is used.
-    ensures unknown { asked ≡ Ok Asked.Unknown → (result.status ≡ 2) × (option_map (λ words. words.now) result.words ≡ Some USAGE.now) × Keeps (W.contents output.old) (W.contents output.new) }
+    ensures unknown { asked ≡ Ok Asked.Unknown → (result.status ≡ 2) × (exit_words result ≡ Some USAGE.now) × Keeps (W.contents output.old) (W.contents output.new) }
     ensures failed { OnErr asked ((result.status ≡ 1) × Keeps (W.contents output.old) (W.contents output.new)) }
 {
     match asked {

@@ -2,12 +2,14 @@
 //! output what it finds of each report.
 #![tactic(auto)]
 
-ghost use Rattle.std.specs.Prelude.{◌≡◌, ◌≢◌, ℕ, ◌<◌, ◌⊎◌, List, length, take, codes, Ok, Err, None, Some, IfSome, OnErr, option_map};
+ghost use Rattle.std.specs.Prelude.{◌≡◌, ◌≢◌, ◌<◌, ◌⊎◌, codes, Ok, Err, None, Some, IfSome, OnErr};
 ghost use Rattle.std.specs.Io.KnownBytes.{Appends, Keeps};
 ghost use Rattle.report_checking.specs.Checking.{IsAllRight, IsRightSoFar};
 ghost use Rattle.report_checking.specs.RightReports.{StopsAtWrong};
-ghost use Rattle.report_checking.specs.Outcomes.{FindsAll, TellsFirst};
-ghost use Rattle.report_checking.specs.Telling.{AppendsFront, told_of};
+ghost use Rattle.report_checking.specs.Outcomes.{TellsAll, TellsPart};
+ghost use Rattle.byte_lines.specs.Exits.{exit_words};
+ghost use Rattle.byte_lines.specs.Faults.{NoneFailed, SomeFailed};
+ghost use Rattle.cobra.specs.Programs.{AppendsPart};
 
 use cobra::{
     Asked, ByteSink, ByteSource, Exit, Failure, ReaderSource, WriterSink, asked_in, exit_of, tell,
@@ -55,19 +57,19 @@ fn run<R: ByteSource, W: ByteSink>(
     ensures unchecked { asked ≡ Ok Asked.Work → result.status ≡ 4 → IfSome (R.remaining input.old) IsRightSoFar }
 
     // What was written is a line of each reply, by what was found of it, and at its end the same as the status.
-    ensures told_right { asked ≡ Ok Asked.Work → result.status ≡ 0 → (all : _) × IfSome (R.remaining input.old) (λ bytes. FindsAll Outcome.Right bytes all) × Appends (W.contents output.old) (W.contents output.new) (told_of all Outcome.Right) }
-    ensures told_wrong { asked ≡ Ok Asked.Work → result.status ≡ 3 → (all : _) × IfSome (R.remaining input.old) (λ bytes. FindsAll Outcome.Wrong bytes all) × Appends (W.contents output.old) (W.contents output.new) (told_of all Outcome.Wrong) }
-    ensures told_unchecked { asked ≡ Ok Asked.Work → result.status ≡ 4 → (all : _) × IfSome (R.remaining input.old) (λ bytes. FindsAll Outcome.Unchecked bytes all) × Appends (W.contents output.old) (W.contents output.new) (told_of all Outcome.Unchecked) }
+    ensures told_right { asked ≡ Ok Asked.Work → result.status ≡ 0 → TellsAll Outcome.Right (R.remaining input.old) (W.contents output.old) (W.contents output.new) }
+    ensures told_wrong { asked ≡ Ok Asked.Work → result.status ≡ 3 → TellsAll Outcome.Wrong (R.remaining input.old) (W.contents output.old) (W.contents output.new) }
+    ensures told_unchecked { asked ≡ Ok Asked.Work → result.status ≡ 4 → TellsAll Outcome.Unchecked (R.remaining input.old) (W.contents output.old) (W.contents output.new) }
 
     // With status 1 a front was written of what is written of the input's first replies, or of all and with the last line.
-    ensures told_front { asked ≡ Ok Asked.Work → result.status ≡ 1 → (text : List ℕ) × IfSome (R.remaining input.old) (λ bytes. TellsFirst bytes text) × AppendsFront (W.contents output.old) (W.contents output.new) text }
+    ensures told_front { asked ≡ Ok Asked.Work → result.status ≡ 1 → TellsPart (R.remaining input.old) (W.contents output.old) (W.contents output.new) }
 
     ensures statuses { asked ≡ Ok Asked.Work → (result.status ≡ 0) ⊎ (result.status ≡ 1) ⊎ (result.status ≡ 3) ⊎ (result.status ≡ 4) }
 
     // Status 1 says that a device failed, or that memory was wanting; the words say which.
-    ensures device { asked ≡ Ok Asked.Work → option_map (λ words. words.now) result.words ≡ Some (codes "device failed") → (R.faults input.old < R.faults input.new) ⊎ (W.faults output.old < W.faults output.new) }
-    ensures memory { asked ≡ Ok Asked.Work → option_map (λ words. words.now) result.words ≡ Some (codes "out of memory") → (R.faults input.new ≡ R.faults input.old) × (W.faults output.new ≡ W.faults output.old) }
-    ensures said { result.status ≡ 1 → (option_map (λ words. words.now) result.words ≡ Some (codes "device failed")) ⊎ (option_map (λ words. words.now) result.words ≡ Some (codes "out of memory")) }
+    ensures device { asked ≡ Ok Asked.Work → exit_words result ≡ Some (codes "device failed") → SomeFailed (R.faults input.old) (R.faults input.new) (W.faults output.old) (W.faults output.new) }
+    ensures memory { asked ≡ Ok Asked.Work → exit_words result ≡ Some (codes "out of memory") → NoneFailed (R.faults input.old) (R.faults input.new) (W.faults output.old) (W.faults output.new) }
+    ensures said { result.status ≡ 1 → (exit_words result ≡ Some (codes "device failed")) ⊎ (exit_words result ≡ Some (codes "out of memory")) }
 
     // And nothing is said where what was asked for is done, whatever was found.
     ensures silent { (result.status ≡ 0) ⊎ (result.status ≡ 3) ⊎ (result.status ≡ 4) → result.words ≡ None }
@@ -75,12 +77,13 @@ fn run<R: ByteSource, W: ByteSink>(
     // The text is written, or a front of it where the device failed.
     ensures help { asked ≡ Ok Asked.Help → result.status ≡ 0 → Appends (W.contents output.old) (W.contents output.new) HELP.now }
     ensures version { asked ≡ Ok Asked.Version → result.status ≡ 0 → Appends (W.contents output.old) (W.contents output.new) VERSION.now }
-    ensures help_front { asked ≡ Ok Asked.Help → result.status ≢ 0 → (n : ℕ) × (n < length HELP.now) × Appends (W.contents output.old) (W.contents output.new) (take n HELP.now) }
-    ensures version_front { asked ≡ Ok Asked.Version → result.status ≢ 0 → (n : ℕ) × (n < length VERSION.now) × Appends (W.contents output.old) (W.contents output.new) (take n VERSION.now) }
-    ensures printed { (asked ≡ Ok Asked.Help) ⊎ (asked ≡ Ok Asked.Version) → (result.status ≡ 0) ⊎ ((result.status ≡ 1) × (option_map (λ words. words.now) result.words ≡ Some (codes "device failed")) × (W.faults output.old < W.faults output.new)) }
+    ensures help_front { asked ≡ Ok Asked.Help → result.status ≢ 0 → AppendsPart (W.contents output.old) (W.contents output.new) HELP.now }
+    ensures version_front { asked ≡ Ok Asked.Version → result.status ≢ 0 → AppendsPart (W.contents output.old) (W.contents output.new) VERSION.now }
+    ensures printed { (asked ≡ Ok Asked.Help) ⊎ (asked ≡ Ok Asked.Version)
+        → (result.status ≡ 0) ⊎ ((result.status ≡ 1) × (exit_words result ≡ Some (codes "device failed")) × (W.faults output.old < W.faults output.new)) }
 
     // Other arguments: nothing is written but how the program is used.
-    ensures unknown { asked ≡ Ok Asked.Unknown → (result.status ≡ 2) × (option_map (λ words. words.now) result.words ≡ Some USAGE.now) × Keeps (W.contents output.old) (W.contents output.new) }
+    ensures unknown { asked ≡ Ok Asked.Unknown → (result.status ≡ 2) × (exit_words result ≡ Some USAGE.now) × Keeps (W.contents output.old) (W.contents output.new) }
     ensures failed { OnErr asked ((result.status ≡ 1) × Keeps (W.contents output.old) (W.contents output.new)) }
 {
     match asked {

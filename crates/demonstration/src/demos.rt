@@ -1,12 +1,10 @@
-ghost use Rattle.std.specs.Prelude.{◌≡◌, ℕ, ◌+◌, ◌<◌, ◌≤◌, ◌⊎◌, length, take, IfOk, IfSome, OnOk, IsErrOf};
-ghost use Rattle.std.specs.Io.KnownBytes.{Appends, Keeps};
+ghost use Rattle.std.specs.Prelude.{◌≡◌, ◌+◌, ◌<◌, ◌≤◌, IfOk, IfSome, OnOk, IsErrOf};
+ghost use Rattle.std.specs.Io.KnownBytes.{Keeps};
 ghost use Rattle.std.specs.Thread.{IsSync};
 ghost use Rattle.demonstration.specs.declared.commands.Command.{Command};
-ghost use Rattle.demonstration.specs.declared.texts.Shown.{Shown};
 ghost use Rattle.demonstration.specs.Commands.{AsksFor, IsAllowed};
-ghost use Rattle.demonstration.specs.Runs.{IsRun};
-ghost use Rattle.demonstration.specs.Shows.{OneFailed, WritesFront, WritesRun};
-ghost use Rattle.demonstration.specs.Texts.{demo_text};
+ghost use Rattle.byte_lines.specs.Faults.{NoneFailed, OneFailed};
+ghost use Rattle.demonstration.specs.Shows.{WritesFront, WritesFrontOf, WritesRun, WritesRunOf};
 
 use crate::commands::{Command, LONGEST_COMMAND, command_of};
 use crate::failures::DemoFailure;
@@ -35,11 +33,11 @@ pub fn demo_run<R: Threads + Wait + Sync, W: ByteSink>(
     requires ring { (1 ≤ ring) × (ring ≤ 1024) }
 
     // What a run with this fault comes to is written.
-    ensures written { OnOk result ((shown : Shown) × (shown.fault ≡ fault) × IsRun shown × Appends (W.contents sink.old) (W.contents sink.new) (demo_text shown)) }
+    ensures written { OnOk result (WritesRunOf fault (W.contents sink.old) (W.contents sink.new)) }
     ensures ok { OnOk result (W.faults sink.new ≡ W.faults sink.old) }
 
     // A proper front of it is written.
-    ensures front { IsErrOf result Failure.Device → ((shown : Shown) × (n : ℕ) × (shown.fault ≡ fault) × IsRun shown × (n < length (demo_text shown)) × Appends (W.contents sink.old) (W.contents sink.new) (take n (demo_text shown))) }
+    ensures front { IsErrOf result Failure.Device → WritesFrontOf fault (W.contents sink.old) (W.contents sink.new) }
     ensures failed { IsErrOf result Failure.Device → W.faults sink.new ≡ W.faults sink.old + 1 }
 
     ensures unwritten { IsErrOf result Failure.NoMemory → Keeps (W.contents sink.old) (W.contents sink.new) }
@@ -93,7 +91,7 @@ pub fn demo<R: Threads + Wait + Sync, S: ByteSource, W: ByteSink>(
 
     // One of the devices failed, once, where that is the answer, and else none did.
     ensures device { IsErrOf result DemoFailure.Device → OneFailed (S.faults source.old) (S.faults source.new) (W.faults sink.old) (W.faults sink.new) }
-    ensures none_failed { ¬ IsErrOf result DemoFailure.Device → (S.faults source.new ≡ S.faults source.old) × (W.faults sink.new ≡ W.faults sink.old) }
+    ensures none_failed { ¬ IsErrOf result DemoFailure.Device → NoneFailed (S.faults source.old) (S.faults source.new) (W.faults sink.old) (W.faults sink.new) }
 {
     let command = read_command(alloc, source)?;
     let desk = usize::from(command.capacity);

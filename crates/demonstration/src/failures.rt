@@ -1,4 +1,5 @@
-ghost use Rattle.std.specs.Prelude.{◌≡◌, Some, None, codes, option_map, OnOk, IsErrOf};
+ghost use Rattle.std.specs.Prelude.{◌≡◌, Some, None, codes, OnOk, IsErrOf};
+ghost use Rattle.byte_lines.specs.Exits.{exit_words};
 ghost use Rattle.demonstration.specs.Failures.{failure_of};
 ghost use Rattle.demonstration.specs.declared.failures.DemoFailure.TheVariants.{NoMemory};
 
@@ -38,9 +39,9 @@ impl From<AllocError> for DemoFailure {
 
 pub fn exit_of(end: Result<(), DemoFailure>) -> Exit
     ensures done { OnOk end ((result.status ≡ 0) × (result.words ≡ None)) }
-    ensures usage { IsErrOf end DemoFailure.Usage → (result.status ≡ 2) × (option_map (λ words. words.now) result.words ≡ Some (codes "usage")) }
-    ensures device { IsErrOf end DemoFailure.Device → (result.status ≡ 1) × (option_map (λ words. words.now) result.words ≡ Some (codes "device failed")) }
-    ensures memory { IsErrOf end DemoFailure.NoMemory → (result.status ≡ 1) × (option_map (λ words. words.now) result.words ≡ Some (codes "out of memory")) }
+    ensures usage { IsErrOf end DemoFailure.Usage → (result.status ≡ 2) × (exit_words result ≡ Some (codes "usage")) }
+    ensures device { IsErrOf end DemoFailure.Device → (result.status ≡ 1) × (exit_words result ≡ Some (codes "device failed")) }
+    ensures memory { IsErrOf end DemoFailure.NoMemory → (result.status ≡ 1) × (exit_words result ≡ Some (codes "out of memory")) }
 {
     match end {
         Ok(()) => Exit {

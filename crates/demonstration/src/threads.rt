@@ -141,7 +141,8 @@ pub fn run_threads<R: Threads + Wait + Sync, S: Solver + Sync>(
         thread::scope_env(),
         rt,
         move |scope| -> Result<Returned, NoMemory>
-            requires { S.ready × (engine.asked ≡ None) × Holds engine (fresh_state 64 4 4096) × AreCollectorsOf hall.now.desk passes × AreFresh passes × IsFreshSide hall.now side × (reader.received ≡ []) }
+            requires { S.ready × (engine.asked ≡ None) × Holds engine (fresh_state 64 4 4096)
+                × AreCollectorsOf hall.now.desk passes × AreFresh passes × IsFreshSide hall.now side × (reader.received ≡ []) }
             ensures { IfOk result (HasReturned passes side reader) }
         {
             let (first, second, third, fourth) = passes;

@@ -216,7 +216,8 @@ fn run_threads<R: Threads + Wait + Sync, P: Play + Sync, S: Solver + Sync>(
         thread::scope_env(),
         rt,
         move |scope| -> Result<Returned, NoMemory>
-            requires { S.ready × IsEffort effort.budget effort.depth effort.workers × AreCollectorsOf hall.now.desk passes × AreFresh passes × (engine.asked ≡ None) × IsFreshSide hall.now.desk hall.now.latest side }
+            requires { S.ready × IsEffort effort.budget effort.depth effort.workers × AreCollectorsOf hall.now.desk passes
+                × AreFresh passes × (engine.asked ≡ None) × IsFreshSide hall.now.desk hall.now.latest side }
             ensures { IfOk result (λ returned. AreCollectorsOf hall.entry.now.desk returned.passes × (returned.side.pass.0 ≡ hall.entry.now.desk.0)) }
         {
             let (first, second, third, fourth) = passes;

@@ -4,6 +4,8 @@
 #[cfg(test)]
 mod aborts;
 #[cfg(test)]
+mod beside;
+#[cfg(test)]
 mod cuts;
 #[cfg(test)]
 mod engines;

@@ -107,7 +107,9 @@ impl Desk {
         requires desk { pass.old.0 ≡ self.now.0 }
         requires few { length pass.old.2 < 2 ^ 48 }
         ensures same { (pass.new.0 ≡ pass.old.0) × (pass.new.1 ≡ pass.old.1) }
-        ensures submitted { MatchResult result (λ _. HasSubmitted pass.old.1 pass.old.2 item pass.new.2) (λ x. (x ≡ item) × (pass.new.2 ≡ pass.old.2) × Held self.now.1 (Waits (collector pass.old.1 pass.old.2))) }
+        ensures submitted { MatchResult result
+            (λ _. HasSubmitted pass.old.1 pass.old.2 item pass.new.2)
+            (λ x. (x ≡ item) × (pass.new.2 ≡ pass.old.2) × Held self.now.1 (Waits (collector pass.old.1 pass.old.2))) }
     {
         let parcel = Parcel {
             collector: pass.who,

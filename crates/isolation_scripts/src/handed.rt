@@ -137,7 +137,9 @@ fn taken_offer(
     parts: &Parts,
     logged: LoggedFragment,
 ) -> Result<Result<Command, Refusal>, NoMemory>
-    ensures { IfOk result (λ judged. MatchResult judged (λ taken. HasRoomToSplit logged.fragment × (taken ≡ half_command parts.now (Command.Offer logged))) (λ refusal. (refusal ≡ Refusal.BadParts) × (¬ HasRoomToSplit logged.fragment))) }
+    ensures { IfOk result (λ judged. MatchResult judged
+        (λ taken. HasRoomToSplit logged.fragment × (taken ≡ half_command parts.now (Command.Offer logged)))
+        (λ refusal. (refusal ≡ Refusal.BadParts) × (¬ HasRoomToSplit logged.fragment))) }
 {
     if !has_room_to_split(&logged.fragment) {
         return Ok(Err(Refusal::BadParts));
@@ -155,7 +157,9 @@ pub fn half_command(
     parts: &Parts,
     command: Command,
 ) -> Result<Result<Command, Refusal>, NoMemory>
-    ensures halves { IfOk result (λ judged. MatchResult judged (λ half. CanBeHanded command × (half ≡ half_command parts.now command)) (λ refusal. (refusal ≡ Refusal.BadParts) × (¬ CanBeHanded command))) }
+    ensures halves { IfOk result (λ judged. MatchResult judged
+        (λ half. CanBeHanded command × (half ≡ half_command parts.now command))
+        (λ refusal. (refusal ≡ Refusal.BadParts) × (¬ CanBeHanded command))) }
 {
     match command {
         Command::Last(more) => {

@@ -40,7 +40,7 @@ Stands (Some script) gone = StandsIn script.opening gone script.state
 
 kept_in : Laws → (opening : Opening) (gone : List TxnId) (state : State) → StandsIn opening gone state → IsKeptIn opening gone state
 kept_in laws (Ordered version) gone state stands = stands
-kept_in laws (Isolated version) gone state stands = (stands.0, stands.1, laws.halves gone state.engine state.whole state.asked stands.2)
+kept_in laws (Isolated version) gone state stands = (stands.0, stands.1, stands.2, laws.halves gone state.engine state.whole state.asked stands.2)
 
 kept : Laws → (script : Option ScriptState) (gone : List TxnId) → Stands script gone → IsKept script gone
 kept laws None gone stands = stands

@@ -1,11 +1,13 @@
 -- What a check of an input comes to, and what is written of it.
-use Rattle.std.specs.Prelude.{◌≡◌, ℕ, ◌<◌, ◌⊎◌, Bool, true, false, List, ◌++◌, count_by, Option}
+use Rattle.std.specs.Prelude.{◌≡◌, ℕ, ◌<◌, ◌⊎◌, Bool, true, false, List, ◌++◌, count_by, Option, IfSome}
+use Rattle.std.specs.Io.KnownBytes.{Appends}
 use Rattle.byte_lines.specs.Lines.{lines}
 use Rattle.report_checking.specs.Checking.{Checks, FindsRight}
 use Rattle.report_checking.specs.OwedLines.{ScriptState}
 use Rattle.report_checking.specs.RightReports.{FindsWrong}
-use Rattle.report_checking.specs.Telling.{is_unchecked, lines_told, told_of}
+use Rattle.report_checking.specs.Telling.{AppendsFront, is_unchecked, lines_told, tally_of, told_of}
 use Rattle.report_checking.specs.declared.findings.Found.{Found}
+use Rattle.report_checking.specs.declared.texts.Tally.{Tally}
 use Rattle.report_checking.specs.declared.findings.Outcome.{Outcome}
 use Rattle.report_checking.specs.declared.findings.Outcome.TheVariants.{Right, Unchecked, Wrong}
 
@@ -34,9 +36,22 @@ TellsFirst input text =
     ((all : List Found) × FindsFirst input all × (text ≡ lines_told 0 all))
     ⊎ ((all : List Found) × (outcome : Outcome) × FindsAll outcome input all × (text ≡ told_of all outcome))
 
+-- What was found of all that was to be read is written, with the last line.
+abbrev pub TellsAll : Outcome → Option (List ℕ) → Option (List ℕ) → Option (List ℕ) → Type 0
+TellsAll outcome input before after = (all : List Found) × IfSome input (λ bytes. FindsAll outcome bytes all) × Appends before after (told_of all outcome)
+
+-- A front is written of what is written of the first replies, or of all.
+abbrev pub TellsPart : Option (List ℕ) → Option (List ℕ) → Option (List ℕ) → Type 0
+TellsPart input before after = (text : List ℕ) × IfSome input (λ bytes. TellsFirst bytes text) × AppendsFront before after text
+
 -- ---- For private clauses.
 
 -- this is found of the input's replies, by whether none is wrong
 abbrev pub FindsLines : Bool → List ℕ → List Found → Type 0
 FindsLines true input all = FindsRight input all
 FindsLines false input all = FindsWrong input all
+
+-- it is counted and written, without a last line
+abbrev pub TellsLines : Bool → Option (List ℕ) → Tally → Option (List ℕ) → Option (List ℕ) → Type 0
+TellsLines right input tally before after =
+    (all : List Found) × (tally ≡ tally_of all) × IfSome input (λ bytes. FindsLines right bytes all) × Appends before after (lines_told 0 all)

@@ -10,12 +10,10 @@ use Rattle.log_text.specs.declared.versions.Opening.{Opening}
 use Rattle.log_text.specs.declared.versions.Opening.TheVariants.{Ordered, Isolated}
 use Rattle.log_text.specs.Replies.{text_of}
 use Rattle.round_state.specs.Legal.{State}
-use Rattle.isolation_histories.specs.Split.{HistoryCanBeSplit}
 use Rattle.engine_pasts.specs.Holding.{HoldsBehind}
-use Rattle.engine_pasts.specs.Laws.{ToldBehind}
 use Rattle.cobra.specs.Outputs.{Asks}
 use Rattle.cobra.specs.Scripts.{IsBadLine}
-use Rattle.cobra.specs.TrueReports.{MovesHalves, MovesTxns, TellsTrueOf}
+use Rattle.cobra.specs.TrueReports.{IsKeptSplit, MovesHalves, MovesTxns, TellsTrueOf}
 use Rattle.report_checking.specs.Checking.{Checks, IsUnchecked}
 use Rattle.report_checking.specs.OwedLines.{Owes, ScriptState}
 use Rattle.report_checking.specs.Telling.{what_of}
@@ -27,12 +25,11 @@ abbrev pub reported_in : State → Command → History
 reported_in old (Round budget depth workers search) = old.whole
 reported_in old command = old.asked
 
--- What the engine of an open script holds remains of what was received, behind what is gone, in this order; or, where transactions are split, tells of
--- it, behind the begins and commits that are gone, exactly, since each transaction of it can be split. The open round's snapshot is one of what had
--- been received when the round began, behind the same.
+-- What the engine of an open script holds remains of what was received, behind what is gone, in this order, split or not. The open round's snapshot
+-- is one of what had been received when the round began, behind the same.
 abbrev pub IsKeptIn : Opening → List TxnId → State → Type 0
 IsKeptIn (Ordered version) gone state = HoldsBehind gone state.engine state.whole state.asked
-IsKeptIn (Isolated version) gone state = HistoryCanBeSplit state.whole × HistoryCanBeSplit state.asked × ToldBehind gone state.engine state.whole state.asked
+IsKeptIn (Isolated version) gone state = IsKeptSplit gone state.engine state.whole state.asked
 
 -- the same of a script, where before it is open nothing is gone
 abbrev pub IsKept : Option ScriptState → List TxnId → Type 0

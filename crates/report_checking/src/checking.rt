@@ -1,13 +1,12 @@
-ghost use Rattle.std.specs.Prelude.{◌≡◌, ℕ, ◌+◌, ◌<◌, ◌⊎◌, List, [], Some, None, IfOk, IfSome, IsTrue, OnOk, OnErr, OnSome, IsErrOf};
-ghost use Rattle.std.specs.Io.KnownBytes.{Appends};
+ghost use Rattle.std.specs.Prelude.{◌≡◌, ℕ, ◌+◌, ◌<◌, List, [], Some, None, IfOk, IfSome, OnOk, OnErr, OnSome, IsErrOf};
+ghost use Rattle.byte_lines.specs.Faults.{NoneFailed, OneFailed};
 ghost use Rattle.byte_lines.specs.LineReaders.{lines_ahead, lines_left};
 ghost use Rattle.report_checking.specs.Checking.{IsAllRight, IsRightSoFar};
 ghost use Rattle.report_checking.specs.Reading.{IsRead, IsFine, FindsNext, LeadsOn, Advances, IsFairNext, IsOtherwiseNext, StopsOn, TellsFront};
 ghost use Rattle.report_checking.specs.RightReports.{StopsAtWrong};
-ghost use Rattle.report_checking.specs.Outcomes.{FindsAll, FindsLines, TellsFirst};
-ghost use Rattle.report_checking.specs.Telling.{AppendsFront, TellsNext, lines_told, no_tally, tally_of, told_of};
+ghost use Rattle.report_checking.specs.Outcomes.{TellsAll, TellsLines, TellsPart};
+ghost use Rattle.report_checking.specs.Telling.{TellsNext, no_tally};
 ghost use Rattle.cobra.specs.Outputs.{IsTold};
-ghost use Rattle.report_checking.specs.declared.findings.Found.{Found};
 
 use crate::findings::{Fault, Found, Outcome};
 use crate::pairs::Replay;
@@ -63,7 +62,8 @@ fn check_reply<R: ByteSource>(
 ) -> Result<Found, Failure>
     requires limit { reader.old.limit ≡ LONGEST_REPLY }
     requires fresh { reader.old.under_way ≡ Some [] }
-    ensures on { IfOk result (λ found. LeadsOn reader.old.limit (lines_ahead reader.old (R.remaining source.old)) next replay.old.script found (lines_ahead reader.new (R.remaining source.new)) replay.new.script) }
+    ensures on { IfOk result (λ found. LeadsOn reader.old.limit (lines_ahead reader.old (R.remaining source.old)) next replay.old.script found
+        (lines_ahead reader.new (R.remaining source.new)) replay.new.script) }
     ensures stops { IfOk result (StopsOn reader.old.limit (lines_ahead reader.old (R.remaining source.old)) next replay.old.script) }
     ensures fresh { OnOk result (reader.new.under_way ≡ Some []) }
     ensures limit { reader.new.limit ≡ reader.old.limit }
@@ -95,9 +95,9 @@ fn check_next<R: ByteSource, W: ByteSink>(
     ensures fewer { IfOk result (λ found. IfSome found (λ given. IsFine given → lines_left reader.new (R.reads_left source.new) < lines_left reader.old (R.reads_left source.old))) }
     ensures told { IfOk result (λ found. TellsNext found tally.old tally.new (W.contents sink.old) (W.contents sink.new)) }
     ensures front { OnErr result (TellsFront (lines_ahead reader.old (R.remaining source.old)) replay.old.script tally.old (W.contents sink.old) (W.contents sink.new)) }
-    ensures ok { OnOk result ((R.faults source.new ≡ R.faults source.old) × (W.faults sink.new ≡ W.faults sink.old)) }
-    ensures device { IsErrOf result Failure.Device → ((R.faults source.new ≡ R.faults source.old + 1) × (W.faults sink.new ≡ W.faults sink.old)) ⊎ ((R.faults source.new ≡ R.faults source.old) × (W.faults sink.new ≡ W.faults sink.old + 1)) }
-    ensures memory { IsErrOf result Failure.NoMemory → (R.faults source.new ≡ R.faults source.old) × (W.faults sink.new ≡ W.faults sink.old) }
+    ensures ok { OnOk result (NoneFailed (R.faults source.old) (R.faults source.new) (W.faults sink.old) (W.faults sink.new)) }
+    ensures device { IsErrOf result Failure.Device → OneFailed (R.faults source.old) (R.faults source.new) (W.faults sink.old) (W.faults sink.new) }
+    ensures memory { IsErrOf result Failure.NoMemory → NoneFailed (R.faults source.old) (R.faults source.new) (W.faults sink.old) (W.faults sink.new) }
 {
     let next = reader.next_line(source)?;
     if let Next::End = next {
@@ -123,11 +123,11 @@ fn check_lines<R: ByteSource, W: ByteSink>(
     requires under_way { reader.old.under_way ≡ Some [] }
     requires unopened { replay.old.script ≡ None }
     requires uncounted { tally.old ≡ no_tally }
-    ensures told { IfOk result (λ right. (all : List Found) × (tally.new ≡ tally_of all) × IfSome (R.remaining source.old) (λ input. FindsLines right input all) × Appends (W.contents sink.old) (W.contents sink.new) (lines_told 0 all)) }
-    ensures front { OnErr result ((text : List ℕ) × IfSome (R.remaining source.old) (λ input. TellsFirst input text) × AppendsFront (W.contents sink.old) (W.contents sink.new) text) }
-    ensures ok { OnOk result ((R.faults source.new ≡ R.faults source.old) × (W.faults sink.new ≡ W.faults sink.old)) }
-    ensures device { IsErrOf result Failure.Device → ((R.faults source.new ≡ R.faults source.old + 1) × (W.faults sink.new ≡ W.faults sink.old)) ⊎ ((R.faults source.new ≡ R.faults source.old) × (W.faults sink.new ≡ W.faults sink.old + 1)) }
-    ensures memory { IsErrOf result Failure.NoMemory → (R.faults source.new ≡ R.faults source.old) × (W.faults sink.new ≡ W.faults sink.old) }
+    ensures told { IfOk result (λ right. TellsLines right (R.remaining source.old) tally.new (W.contents sink.old) (W.contents sink.new)) }
+    ensures front { OnErr result (TellsPart (R.remaining source.old) (W.contents sink.old) (W.contents sink.new)) }
+    ensures ok { OnOk result (NoneFailed (R.faults source.old) (R.faults source.new) (W.faults sink.old) (W.faults sink.new)) }
+    ensures device { IsErrOf result Failure.Device → OneFailed (R.faults source.old) (R.faults source.new) (W.faults sink.old) (W.faults sink.new) }
+    ensures memory { IsErrOf result Failure.NoMemory → NoneFailed (R.faults source.old) (R.faults source.new) (W.faults sink.old) (W.faults sink.new) }
 {
     loop {
         let Some(found) = check_next(alloc, reader, replay, tally, source, sink)? else {
@@ -155,11 +155,11 @@ fn check_all<R: ByteSource, W: ByteSink>(
     ensures right { IfOk result (λ outcome. outcome ≡ Outcome.Right → IfSome (R.remaining source.old) IsAllRight) }
     ensures unchecked { IfOk result (λ outcome. outcome ≡ Outcome.Unchecked → IfSome (R.remaining source.old) IsRightSoFar) }
     ensures wrong { IfOk result (λ outcome. outcome ≡ Outcome.Wrong → IfSome (R.remaining source.old) StopsAtWrong) }
-    ensures told { IfOk result (λ outcome. (all : List Found) × IfSome (R.remaining source.old) (λ input. FindsAll outcome input all) × Appends (W.contents sink.old) (W.contents sink.new) (told_of all outcome)) }
-    ensures front { OnErr result ((text : List ℕ) × IfSome (R.remaining source.old) (λ input. TellsFirst input text) × AppendsFront (W.contents sink.old) (W.contents sink.new) text) }
-    ensures ok { OnOk result ((R.faults source.new ≡ R.faults source.old) × (W.faults sink.new ≡ W.faults sink.old)) }
-    ensures device { IsErrOf result Failure.Device → ((R.faults source.new ≡ R.faults source.old + 1) × (W.faults sink.new ≡ W.faults sink.old)) ⊎ ((R.faults source.new ≡ R.faults source.old) × (W.faults sink.new ≡ W.faults sink.old + 1)) }
-    ensures memory { IsErrOf result Failure.NoMemory → (R.faults source.new ≡ R.faults source.old) × (W.faults sink.new ≡ W.faults sink.old) }
+    ensures told { IfOk result (λ outcome. TellsAll outcome (R.remaining source.old) (W.contents sink.old) (W.contents sink.new)) }
+    ensures front { OnErr result (TellsPart (R.remaining source.old) (W.contents sink.old) (W.contents sink.new)) }
+    ensures ok { OnOk result (NoneFailed (R.faults source.old) (R.faults source.new) (W.faults sink.old) (W.faults sink.new)) }
+    ensures device { IsErrOf result Failure.Device → OneFailed (R.faults source.old) (R.faults source.new) (W.faults sink.old) (W.faults sink.new) }
+    ensures memory { IsErrOf result Failure.NoMemory → NoneFailed (R.faults source.old) (R.faults source.new) (W.faults sink.old) (W.faults sink.new) }
 {
     let mut tally = Tally::new();
     let none_is_wrong = check_lines(alloc, reader, replay, &mut tally, source, sink)?;
@@ -180,15 +180,15 @@ pub fn check_replies<R: ByteSource, W: ByteSink>(
     ensures unchecked { IfOk result (λ outcome. outcome ≡ Outcome.Unchecked → IfSome (R.remaining source.old) IsRightSoFar) }
     ensures wrong { IfOk result (λ outcome. outcome ≡ Outcome.Wrong → IfSome (R.remaining source.old) StopsAtWrong) }
     // What is written is a line of each reply, by what is found of it, and at its end what that comes to.
-    ensures told { IfOk result (λ outcome. (all : List Found) × IfSome (R.remaining source.old) (λ input. FindsAll outcome input all) × Appends (W.contents sink.old) (W.contents sink.new) (told_of all outcome)) }
+    ensures told { IfOk result (λ outcome. TellsAll outcome (R.remaining source.old) (W.contents sink.old) (W.contents sink.new)) }
 
     // After a failure a front of what is written of the input's first replies, or of all and with the last line.
-    ensures front { OnErr result ((text : List ℕ) × IfSome (R.remaining source.old) (λ input. TellsFirst input text) × AppendsFront (W.contents sink.old) (W.contents sink.new) text) }
+    ensures front { OnErr result (TellsPart (R.remaining source.old) (W.contents sink.old) (W.contents sink.new)) }
 
     // One of the devices failed, once, where that is the answer, and else none did.
-    ensures ok { OnOk result ((R.faults source.new ≡ R.faults source.old) × (W.faults sink.new ≡ W.faults sink.old)) }
-    ensures device { IsErrOf result Failure.Device → ((R.faults source.new ≡ R.faults source.old + 1) × (W.faults sink.new ≡ W.faults sink.old)) ⊎ ((R.faults source.new ≡ R.faults source.old) × (W.faults sink.new ≡ W.faults sink.old + 1)) }
-    ensures memory { IsErrOf result Failure.NoMemory → (R.faults source.new ≡ R.faults source.old) × (W.faults sink.new ≡ W.faults sink.old) }
+    ensures ok { OnOk result (NoneFailed (R.faults source.old) (R.faults source.new) (W.faults sink.old) (W.faults sink.new)) }
+    ensures device { IsErrOf result Failure.Device → OneFailed (R.faults source.old) (R.faults source.new) (W.faults sink.old) (W.faults sink.new) }
+    ensures memory { IsErrOf result Failure.NoMemory → NoneFailed (R.faults source.old) (R.faults source.new) (W.faults sink.old) (W.faults sink.new) }
 {
     let mut reader = LineReader::new(alloc, LONGEST_REPLY)?;
     let mut replay = Replay::new();

@@ -1,4 +1,5 @@
-ghost use Rattle.std.specs.Prelude.{◌≡◌, ◌↔◌, codes, Ok, None, Some, option_map, OnOk, OnErr, IsErrOf};
+ghost use Rattle.std.specs.Prelude.{◌≡◌, ◌↔◌, codes, Ok, None, Some, OnOk, OnErr, IsErrOf};
+ghost use Rattle.byte_lines.specs.Exits.{exit_words};
 
 use crate::findings::Outcome;
 use byte_lines::Failure;
@@ -10,8 +11,8 @@ pub fn exit_of_check(checked: Result<Outcome, Failure>) -> Exit
     ensures wrong { (result.status ≡ 3) ↔ (checked ≡ Ok Outcome.Wrong) }
     ensures unchecked { (result.status ≡ 4) ↔ (checked ≡ Ok Outcome.Unchecked) }
     ensures failed { OnErr checked (result.status ≡ 1) }
-    ensures device { IsErrOf checked Failure.Device → option_map (λ words. words.now) result.words ≡ Some (codes "device failed") }
-    ensures memory { IsErrOf checked Failure.NoMemory → option_map (λ words. words.now) result.words ≡ Some (codes "out of memory") }
+    ensures device { IsErrOf checked Failure.Device → exit_words result ≡ Some (codes "device failed") }
+    ensures memory { IsErrOf checked Failure.NoMemory → exit_words result ≡ Some (codes "out of memory") }
     ensures silent { OnOk checked (result.words ≡ None) }
 {
     match checked {

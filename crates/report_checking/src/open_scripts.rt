@@ -169,7 +169,8 @@ impl OpenScript {
         command: Command,
         stored: &[u8],
     ) -> Result<Owed, NoMemory>
-        ensures owed { IfOk result (IsOwedBy (λ answer. LeadsSplit self.old.engine self.new.engine (λ before after. OwesIsolated version self.old.searched before command answer self.new.searched after))) }
+        ensures owed { IfOk result (IsOwedBy (λ answer. LeadsSplit self.old.engine self.new.engine
+            (λ before after. OwesIsolated version self.old.searched before command answer self.new.searched after))) }
         ensures opening { self.new.opening ≡ self.old.opening }
         ensures right { IfOk result (λ owed. OfRight named.Events (EarnsIn (openings.Isolated version) self.old.searched self.old.engine command) stored.now (λ text. OwesText named.Ids text owed)) }
         ensures unshown { IfOk result (Unshows (EndsWrong named.Events self.old.engine command stored.now)) }
@@ -195,9 +196,11 @@ impl OpenScript {
         command: Command,
         stored: &[u8],
     ) -> Result<Owed, NoMemory>
-        ensures owed { IfOk result (IsOwedBy (λ answer. LeadsIn self.old.opening self.old.engine self.new.engine (λ before after. OwesIn self.old.opening self.old.searched before command answer self.new.searched after))) }
+        ensures owed { IfOk result (IsOwedBy (λ answer. LeadsIn self.old.opening self.old.engine self.new.engine
+            (λ before after. OwesIn self.old.opening self.old.searched before command answer self.new.searched after))) }
         ensures opening { self.new.opening ≡ self.old.opening }
-        ensures right { IfOk result (λ owed. OfRight (names_of self.old.opening) (EarnsIn self.old.opening self.old.searched self.old.engine command) stored.now (λ text. OwesText named.Ids text owed)) }
+        ensures right { IfOk result (λ owed. OfRight (names_of self.old.opening) (EarnsIn self.old.opening self.old.searched self.old.engine command) stored.now
+            (λ text. OwesText named.Ids text owed)) }
         ensures unshown { IfOk result (Unshows (EndsWrong (names_of self.old.opening) self.old.engine command stored.now)) }
         ensures alone { IfOk result (IsAlone (GivesIn self.old.opening self.old.searched self.old.engine command)) }
     {

@@ -12,4 +12,8 @@ mod scans;
 #[cfg(test)]
 mod searches;
 #[cfg(test)]
+mod tables;
+#[cfg(test)]
 mod trees;
+#[cfg(test)]
+mod worked;

@@ -1,6 +1,7 @@
 //! A plain search, over a plain relation: what it finds within how many nodes is compared with the solver's answers, over generated
 //! histories of at most eight transactions.
-use crate::searches::{Said, problem_of, solved};
+use crate::searches::{problem_of, solved};
+use crate::worked::Said;
 use order_check::{Parts, find_order};
 use polygraph::{Cube, Problem, solve_cube};
 use std::alloc::Global;

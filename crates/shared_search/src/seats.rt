@@ -77,7 +77,9 @@ impl Board {
     pub fn claim(&self, seat: &mut Seat) -> Option<u64>
         requires seat { IsSeatOf self.now seat.old }
         ensures seat { IsSeatOf self.now seat.new }
-        ensures claimed { MatchOption result ((0 < seat.new.1.over) × ((seat.new.1 ≡ seat.old.1) ⊎ (seat.new.1 ≡ ends seat.old.1))) (λ i. (i < self.now.1) × (seat.old.1.after ≤ i) × (seat.new.1 ≡ claims seat.old.1 i)) }
+        ensures claimed { MatchOption result
+            ((0 < seat.new.1.over) × ((seat.new.1 ≡ seat.old.1) ⊎ (seat.new.1 ≡ ends seat.old.1)))
+            (λ i. (i < self.now.1) × (seat.old.1.after ≤ i) × (seat.new.1 ≡ claims seat.old.1 i)) }
         ensures ended { 0 < seat.old.1.over → seat.new.1 ≡ seat.old.1 }
     {
         if seat.ended {

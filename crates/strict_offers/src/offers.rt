@@ -77,7 +77,8 @@ fn take(
 ) -> Result<(), Refusal>
     requires there { session < length sessions.old }
     requires few { length sessions.old ≤ 256 }
-    ensures ok { OnOk result (HaveGoodTimes (length sessions.old) (session_of sessions.old session) given × (sessions.new ≡ slice_set sessions.old session (session_of sessions.old session ++ given))) }
+    ensures ok { OnOk result (HaveGoodTimes (length sessions.old) (session_of sessions.old session) given
+        × (sessions.new ≡ slice_set sessions.old session (session_of sessions.old session ++ given))) }
     ensures err { IfErr result (λ refusal. TimesFault (length sessions.old) (session_of sessions.old session) given refusal × (sessions.new ≡ sessions.old)) }
 {
     if !can_take(sessions.as_slice(), session, given.as_slice()) {
