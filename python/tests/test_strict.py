@@ -217,6 +217,16 @@ class Asked(WithFolder):
         self.assertIn("serializability     no                yes", run("levels", path)[1])
         self.assertEqual(run("explain", path)[0], 1)
 
+    def test_a_script_that_begins_anew(self):
+        """It asks for what its last opening asks for, but for strict serializability at once."""
+        for first, kind in ((["resume", 2, 8, 2, "snapshot"], "serial"), (["resume", 2, 8], "violated")):
+            second = ["open", 2, 8] if kind == "violated" else ["open", 2, 8, 2, "snapshot"]
+            skew = [["offer", at, 0, [[[[5 + at, "init"]], [6 - at]]]] for at in range(2)]
+            for lines in ([first, second], [["resume", 1, 4], first, second]):
+                self.assertEqual(kind_of([*lines, *skew, ROUND])[0].kind, kind)
+        with self.assertRaisesRegex(ScriptMistakeError, "line 2 .*by its first line"):
+            kind_of([["resume", 2, 8], *OWN])
+
     def test_refusals_of_such_a_script(self):
         """Are told with the line, and what is allowed."""
         many = [[key, "init"] for key in range(1, 256)]

@@ -91,6 +91,7 @@ OF_STRICTNESS: Mapping[str, str] = {
     "script's sessions are at most 256 together, and writes at most 255; nothing ended before it "
     "began, or before an earlier transaction of its session began; and fences have no times",
 }
+FIRST_ASKS = "a script asks for strict serializability by its first line"
 STRICT_ONLY = "a script that asks for strict serializability has only offers and rounds"
 
 
@@ -516,6 +517,11 @@ class ScriptRun:
         if self._is_open and self._asking.is_plain:
             return self._told(text)
         line = _parts_of(text)
+        own = asked_in(line)
+        if own and own != self.promise and not (self._is_given or self._is_open):
+            if own == STRICT:  # its times weren't looked for
+                raise CantBeAskedError(FIRST_ASKS)
+            self.promise, self._asking = own, Asking(own)  # it begins anew
         given = self._asking.asked(line)
         if given == [line]:
             reply = self._told(text)
