@@ -15,6 +15,7 @@ import sys
 TOP = os.path.normpath(os.path.join(os.path.dirname(os.path.abspath(__file__)), "../.."))
 sys.path.insert(0, os.path.join(TOP, "bench/model"))
 from judge import Model, command_of, text  # noqa: E402
+from plain_strict import rewritten_parts  # noqa: E402
 from plain_trees import refuted  # noqa: E402
 from plain_verdicts import INIT, Relation, cut_of  # noqa: E402
 
@@ -45,6 +46,8 @@ class Plain(Model):
 
     def report(self, budget):
         parts, self.snapshot = self.snapshot or self.parts, None
+        if self.timed is not None:
+            parts = rewritten_parts(self.timed)
         self.rounds += 1
         many = sum(map(len, parts.remaining)) > MOST_RELATED and judged_fast(parts)
         if many:
@@ -57,7 +60,7 @@ class Plain(Model):
             kind = "violated" if left else "spent"
             return self.text_of(*front, kind, parts.received(),
                                 *([refutation(parts)] if left else []))
-        self.held = cut_of(parts, relation)
+        self.held = cut_of(parts, relation) if self.timed is None else None
         places = sorted(range(len(solved.ids)), key=lambda at: bin(solved.before[at]).count("1"))
         kind = "pending" if parts.has_pending() else "serial"
         return self.text_of(*front, kind, parts.received(), [solved.ids[at] for at in places])

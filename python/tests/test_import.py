@@ -370,7 +370,7 @@ def in_time(imported):
     """The lines of the script, with what is added so that some order explains them exactly if some
     order that respects time does."""
     lines = [*map(json.loads, imported.lines)]
-    asking = Asking(STRICT, imported.times.timeline(lines))
+    asking = Asking(STRICT, imported.times.timeline(lines), by_reads=True)
     return [json.dumps(each) for line in lines for each in asking.asked(line)]
 
 

@@ -12,7 +12,7 @@ from zanteyard.explain._audited import audited, in_halves
 from zanteyard.scripts._running import ScriptRun
 from zanteyard.scripts._times import ScriptTimes, read_times
 from zanteyard.program._auditor import PROGRAM
-from zanteyard.promises._asking import KEYS, Asking
+from zanteyard.promises._asking import KEYS, Asking, Whole
 from zanteyard.promises._kinds import ALL, ASKED, IMPLIED, SERIALIZABLE, SNAPSHOT, STRICT, weaker
 from zanteyard.promises._times import TIME_KEYS, Timeline
 
@@ -123,18 +123,62 @@ class Rules(unittest.TestCase):
             Asking(SERIALIZABLE).asked(["resume", 2, 16, *form])
         live = Asking(SNAPSHOT, keeps_version=True)
         self.assertEqual(live.asked(["open", 64, 4096, 2]), [["open", 64, 2048, *form]])
-        self.assertEqual(Asking(STRICT).asked(["open", 2, 8, *form]), [["open", 2, 8, 2]])
-        self.assertEqual(Asking(STRICT).asked(["open", 99, 8, *large]), [["open", 99, 8, 3]])
-        self.assertEqual(Asking(STRICT).asked(["open", 2, 5000, 3]), [["open", 2, 5000, 3]])
+
+    def test_lines_of_strict_scripts(self):
+        """Offers say when transactions began and ended, as far as that is known; and the lines of a
+        script that asks by itself, if it is asked about its own promise, or another one."""
+        two, own = [[[], [5]], [[], []]], ["open", 2, 8, 2, "strict"]
+        timeline = Timeline({(0, 1): (0, 7), (0, 2): (5, None), (1, 1): (1, 2)})
+        asking = Asking(STRICT, timeline)
+        for line, asked in (
+            (["open", 2, 8], own), (["open", 2, 8, 2], own), (["open", 2, 8, 2, "snapshot"], own),
+            (["open", 99, 5000, 3], ["open", 99, 5000, 3, "strict"]),
+            (["offer", 0, 1, two], ["offer", 0, 1, two, [0, 5], [7, 2**64 - 1]]),
+            (["offer", 1, 0, two], ["offer", 1, 0, two, [0, 1], [2**64 - 1, 2]]),
+            (["offer", 0, 4, two], ["offer", 0, 4, two]),
+            *((line, line) for line in (ROUND, ["open", 2, 8, 4], ["offer", 0, 0, "x"], [])),
+        ):
+            with self.subTest(line=line):
+                self.assertEqual(asking.asked(line), [asked])
+        timed, plain = ["offer", 0, 0, two, [1, 2], [3, 4]], ["offer", 0, 0, two]
+        reads = Asking(STRICT, Timeline({}), by_reads=True)
+        for asking, opened, offered in (
+            (Asking(STRICT, Timeline({})), own, timed), (Asking(SERIALIZABLE), own[:4], plain),
+            (Asking(SNAPSHOT), [*own[:4], "snapshot"], plain), (reads, own[:4], plain),
+        ):
+            with self.subTest(opened=opened):
+                self.assertEqual(asking.asked(own), [opened])
+                self.assertEqual(asking.asked(timed), [offered])
+                self.assertEqual(asking.asked(plain), [plain])
+                self.assertFalse(asking.is_plain)
+        self.assertEqual(reads.asked(["open", 2, 8, 2, "snapshot"]), [["open", 2, 8, 2]])
+        self.assertEqual(reads.asked(["open", 2, 5000, 3]), [["open", 2, 5000, 3]])
+        self.assertEqual(reads.asked(timed), [timed])  # which the auditor refuses
+
+    def test_what_strict_scripts_have_no_room_for(self):
+        """It is asked by reads that are added; so is what isn't only offers and rounds."""
+        def why_not(sessions, reads, writes, *more):
+            read = [[key, "init"] for key in range(1, reads + 1)]
+            lines = [["open", sessions, 8], ["offer", 0, 0, [[read, [*range(1, writes + 1)]]]], *more]
+            seen, whole = [], Whole()
+            seen += whole.seen(lines)
+            self.assertEqual(seen, lines)
+            return whole.why_not
+
+        self.assertEqual(why_not(6, 250, 255, ROUND, [], ["offer"], [5]), "")
+        self.assertIn("251 reads, over 256 with the 6 sessions", why_not(6, 251, 255))
+        self.assertIn("writes 256 keys, over 255", why_not(6, 250, 256))
+        for word in ("close", "truncate", "join", "resume", "begin", "answer"):
+            self.assertIn(repr(word), why_not(6, 250, 255, [word]))
 
     def test_there_is_an_order_where_the_promise_is_kept(self):
-        """Without the auditor: tests the halves of prefix consistency, and the times."""
+        """Without the auditor: tests the halves of prefix consistency, and times by added reads."""
         kinds = Counter()
         for seed in range(HISTORIES):
             history, times = generated(seed)
             counted = asked_times(history, times)
             live = {id: counted[id] for id in counted if history[id[0]][id[1]][2] != ABORTED}
-            asking = Asking(STRICT, Timeline(live))
+            asking = Asking(STRICT, Timeline(live), by_reads=True)
             asked = [each for line in script_of(history) for each in asking.asked(line)]
             told = {"strict": has_order(read_back(asked))}
             if not has_fence(history):
@@ -267,7 +311,7 @@ class ByTheAuditor(unittest.TestCase):
             with self.subTest(words=words), self.assertRaisesRegex(ScriptMistakeError, words):
                 kind_told([*lines, ROUND], promise, {} if promise == STRICT else None)
         with self.assertRaisesRegex(CantBeAskedError, "SCRIPT.times"):
-            ScriptRun(PROGRAM, promise=STRICT)
+            kind_told([opened, ROUND], STRICT)
         with self.assertRaisesRegex(CantBeAskedError, "1.7 has times, and isn't in the script"):
             kind_told([opened, ROUND], STRICT, {(1, 7): (0, 1)})
 

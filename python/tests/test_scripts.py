@@ -54,9 +54,8 @@ def run(*words):
 
 
 def worked():
-    """The name, the lines and the replies of each worked script. Those that ask for strict
-    serializability by themselves can't be explained yet."""
-    for path in sorted({*glob.glob(f"{WORKED}/*.jsonl")} - {*glob.glob(f"{WORKED}/strict_*")}):
+    """The name, the lines and the replies of each worked script."""
+    for path in sorted(glob.glob(f"{WORKED}/*.jsonl")):
         with open(path, "rb") as script, open(path[: -len("jsonl")] + "replies", "rb") as replies:
             lines, told = script.read().split(b"\n"), replies.read().splitlines()
         if not lines[-1]:

@@ -1,4 +1,5 @@
 mod EndReads
+mod KnownEnds
 mod Lookups
 mod Orders
 mod Pending

@@ -11,18 +11,14 @@ use Rattle.strict_histories.specs.declared.timed.Span.{Span}
 use Rattle.strict_histories.specs.declared.timed.TimedTxn.{TimedTxn}
 use Rattle.strict_histories.specs.Rewriting.{end_read, end_reads, ended_before, last_before, later_or, strict_sessions, strict_txn, strict_txns}
 use Rattle.strict_histories.specs.Strict.{TimedHistory}
+use Rattle.strict_histories.specs.Ends.{or_last}
 use Rattle.strict_histories.proofs.EndReads.{found_before}
 
--- the last one if it passes, else what is found among the others
-abbrev pub or_last : Bool → ℕ → Option ℕ → Option ℕ
-or_last true number found = Some number
-or_last false number found = found
-
-later_or_last : (b passes : Bool) (n number : ℕ) (found : Option ℕ) → later_or (or_last b n found) passes number ≡ or_last b n (later_or found passes number)
+pub later_or_last : (b passes : Bool) (n number : ℕ) (found : Option ℕ) → later_or (or_last b n found) passes number ≡ or_last b n (later_or found passes number)
 later_or_last true passes n number found = refl
 later_or_last false passes n number found = refl
 
-last_alone : (b : Bool) (n : ℕ) → later_or None b n ≡ or_last b n None
+pub last_alone : (b : Bool) (n : ℕ) → later_or None b n ≡ or_last b n None
 last_alone true n = refl
 last_alone false n = refl
 

@@ -2,6 +2,7 @@
 //! explain the rewritten one.
 #![tactic(auto)]
 
+mod ends;
 mod laws;
 mod refuted;
 mod rewriting;

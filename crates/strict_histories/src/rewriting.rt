@@ -1,6 +1,8 @@
 ghost use Rattle.std.specs.Prelude.{◌≡◌, ◌<◌, ◌≤◌, ◌^◌, ◌++◌, All, length, IfOk, IfSome, OnOk};
-ghost use Rattle.strict_histories.specs.Rewriting.{HasRoomForTimes, end_key, end_read, end_reads, end_writes, last_before, strict_history, strict_txn, strict_txns};
+ghost use Rattle.strict_histories.specs.Ends.{AreAllEndsOf};
+ghost use Rattle.strict_histories.specs.Rewriting.{HasRoomForTimes, end_key, end_read, end_reads, end_writes, strict_history, strict_txn, strict_txns};
 
+use crate::ends::{all_ends, last_end};
 use crate::timed::{Span, TimedTxn};
 use std::alloc::Global;
 use txn::{NUMBERS, NoMemory, Sequence, Source, Txn, TxnId};
@@ -14,19 +16,6 @@ pub fn end_key(id: TxnId) -> u64
     ensures { result ≡ end_key id }
 {
     KEYS + u64::from(id.session) * NUMBERS + id.number
-}
-
-/// The number of the last of a session's transactions that ended before one with this span began.
-fn last_before(span: Span, txns: &[TimedTxn]) -> Option<u64>
-    ensures { result ≡ last_before span 0 txns.now }
-{
-    let mut last = None;
-    for (place, txn) in txns.iter().enumerate() {
-        if txn.span.ended_before(span) {
-            last = Some(place as u64);
-        }
-    }
-    last
 }
 
 /// Puts the read of the key of a session's transaction at the end, if there is one.
@@ -49,18 +38,20 @@ fn push_end_read(
     }
 }
 
-/// Puts at the end the reads by which one with this span comes after those that ended before it began.
+/// Puts at the end the reads by which one with this span comes after those that ended before it began. Each session's ends are given.
 fn push_end_reads(
     reads: &mut Vec<(u64, Source)>,
     span: Span,
     timed: &[Sequence<TimedTxn>],
+    ends: &[Sequence<(u64, u64)>],
 ) -> Result<(), NoMemory>
     requires sessions { length timed.now ≤ 256 }
     requires numbers { All (λ txns. length txns ≤ 2 ^ 48) timed.now }
+    requires ends { AreAllEndsOf timed.now ends.now }
     ensures { OnOk result (reads.new.items ≡ reads.old.items ++ end_reads span 0 timed.now) }
 {
-    for (session, txns) in timed.iter().enumerate() {
-        let last = last_before(span, txns.as_slice());
+    for session in 0..timed.len() {
+        let last = last_end(ends[session].as_slice(), span.began);
         push_end_read(reads, session as u8, last)?;
     }
     Ok(())
@@ -85,16 +76,18 @@ fn push_end_writes(writes: &mut Vec<u64>, id: TxnId, ended: Option<u64>) -> Resu
 fn strict_txn(
     alloc: Global,
     timed: &[Sequence<TimedTxn>],
+    ends: &[Sequence<(u64, u64)>],
     id: TxnId,
     txn: &TimedTxn,
 ) -> Result<Txn, NoMemory>
     requires sessions { length timed.now ≤ 256 }
     requires numbers { All (λ txns. length txns ≤ 2 ^ 48) timed.now }
+    requires ends { AreAllEndsOf timed.now ends.now }
     requires number { id.number < 2 ^ 48 }
     ensures { IfOk result (λ rewritten. rewritten ≡ strict_txn timed.now id txn.now) }
 {
     let mut reads = txn.txn.reads.as_slice().to_vec(alloc)?;
-    push_end_reads(&mut reads, txn.span, timed)?;
+    push_end_reads(&mut reads, txn.span, timed, ends)?;
     let mut writes = txn.txn.writes.as_slice().to_vec(alloc)?;
     push_end_writes(&mut writes, id, txn.span.ended)?;
     Ok(Txn {
@@ -107,11 +100,13 @@ fn strict_txn(
 fn strict_session(
     alloc: Global,
     timed: &[Sequence<TimedTxn>],
+    ends: &[Sequence<(u64, u64)>],
     session: u8,
     txns: &[TimedTxn],
 ) -> Result<Sequence<Txn>, NoMemory>
     requires sessions { length timed.now ≤ 256 }
     requires numbers { All (λ txns. length txns ≤ 2 ^ 48) timed.now }
+    requires ends { AreAllEndsOf timed.now ends.now }
     requires short { length txns.now ≤ 2 ^ 48 }
     ensures { IfOk result (λ rewritten. rewritten ≡ strict_txns timed.now session 0 txns.now) }
 {
@@ -121,7 +116,7 @@ fn strict_session(
             session,
             number: place as u64,
         };
-        let rewritten = strict_txn(alloc, timed, id, txn)?;
+        let rewritten = strict_txn(alloc, timed, ends, id, txn)?;
         all.push(rewritten)?;
     }
     Ok(Sequence::new(all))
@@ -136,9 +131,11 @@ pub fn strict_history(
     requires { HasRoomForTimes timed.now }
     ensures { IfOk result (λ rewritten. rewritten ≡ strict_history timed.now) }
 {
+    let all_ends = all_ends(alloc, timed)?;
+    let ends = all_ends.as_slice();
     let mut all = Vec::new(alloc);
     for (session, txns) in timed.iter().enumerate() {
-        let rewritten = strict_session(alloc, timed, session as u8, txns.as_slice())?;
+        let rewritten = strict_session(alloc, timed, ends, session as u8, txns.as_slice())?;
         all.push(rewritten)?;
     }
     Ok(Sequence::new(all))

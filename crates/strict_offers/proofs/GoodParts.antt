@@ -1,5 +1,5 @@
 -- The parts that a round is about keep the rules of parts.
-use Rattle.std.proofs.Common.{◌≡◌, ◌≢◌, ℕ, zero, suc, ◌+◌, ◌^◌, ◌<◌, ◌≤◌, ◌⊎◌, List, [], ◌∷◌, length, Some, None, Option, refl, sym, ap, ◌∙◌, subst, inl, inr, arith}
+use Rattle.std.proofs.Common.{◌≡◌, ◌≢◌, ℕ, zero, suc, ◌+◌, ◌<◌, ◌≤◌, ◌⊎◌, List, [], ◌∷◌, length, Some, None, Option, refl, sym, ap, ◌∙◌, subst, inl, inr, arith}
 use Rattle.std.specs.FinMap as map
 use Rattle.std.specs.Ordering.{nat_cmp}
 use Rattle.std.specs.Prelude.{All, false, slice_get, slice_index, slice_index_or, replicate, sum_by, option_map}
@@ -7,17 +7,15 @@ use Rattle.std.proofs.lemmas.List.{length-replicate}
 use Rattle.std.proofs.lemmas.List.Elements.{All-head}
 use Rattle.std.proofs.lemmas.List.Sums.{sum_by-cons}
 use Rattle.std.proofs.lemmas.Option.{get_or_from_slice_get, slice_get-get_or}
-use Rattle.txn.specs.declared.transactions.Source.{Source}
 use Rattle.txn.specs.declared.transactions.Txn.{Txn}
 use Rattle.txn.specs.declared.transactions.TxnId.{TxnId}
 use Rattle.txn.specs.Transactions.{IsFence, IsShort, IsWellFormed, SparesEpoch}
-use Rattle.txn.specs.History.{session_of, txn_at}
+use Rattle.txn.specs.History.{session_of}
 use Rattle.order_check.specs.Based.{mark_of}
-use Rattle.order_check.specs.Good.{IsGood}
 use Rattle.strict_histories.specs.declared.timed.TimedTxn.{TimedTxn}
 use Rattle.strict_histories.specs.Laws.{RewritingAddsFew, RewritingGoesByPlace, RewritingIsWellFormed, RewritingKeepsCounts}
 use Rattle.strict_histories.specs.Rewriting.{HasLowKeys, HasRoomForTimes, strict_history, strict_txn}
-use Rattle.strict_histories.specs.Strict.{TimedHistory, timed_at}
+use Rattle.strict_histories.specs.Strict.{TimedHistory}
 use Rattle.strict_offers.specs.Laws.{RoundsAreOfGoodParts}
 use Rattle.strict_offers.specs.Offers.{AreGoodOffers, FitsTimes, OfferedState, strict_parts, unknown}
 

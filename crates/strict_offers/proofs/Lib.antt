@@ -1,4 +1,5 @@
 mod GoodParts
+mod LatestBegins
 mod OffersKept
 mod Refusing
 mod Timed

@@ -1,10 +1,10 @@
 -- Laws of what is offered with times.
-use Rattle.std.specs.Prelude.{◌≡◌, ℕ, ◌+◌, ◌≤◌, ◌<◌, ◌-◌, ◌^◌, List, Some, length, replicate}
+use Rattle.std.specs.Prelude.{ℕ, ◌<◌, ◌-◌, ◌^◌, List}
 use Rattle.logged_fragments.specs.declared.logged.LoggedFragment.{LoggedFragment}
 use Rattle.order_check.specs.Good.{IsGood}
 use Rattle.order_check.specs.NoBase.{HasNoBase}
 use Rattle.strict_histories.specs.declared.timed.Span.{Span}
-use Rattle.strict_histories.specs.Rewriting.{HasRoomForTimes, strict_history}
+use Rattle.strict_histories.specs.Rewriting.{HasRoomForTimes}
 use Rattle.strict_offers.specs.Offers.{AreGoodOffers, AreBounds, IsTaken, OfferedState, nothing_offered, offered, one_round_more, strict_parts}
 
 -- What was offered keeps its bounds: where nothing was offered yet, with each fragment that is taken, and with each round.

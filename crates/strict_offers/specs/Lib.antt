@@ -1,2 +1,3 @@
+pub mod Latest
 pub mod Laws
 pub mod Offers

@@ -1,5 +1,5 @@
 -- What is offered with times: what was taken so far, and what may come next.
-use Rattle.std.specs.Prelude.{◌≡◌, ℕ, ◌+◌, ◌-◌, ◌<◌, ◌≤◌, ◌^◌, ◌⊎◌, ⊤, Bool, false, List, [], ◌∷◌, ◌++◌, length, slice_get, slice_set, replicate, sum_by, take, Some, None, All}
+use Rattle.std.specs.Prelude.{◌≡◌, ℕ, ◌+◌, ◌-◌, ◌<◌, ◌≤◌, ◌^◌, ◌⊎◌, ⊤, false, List, [], ◌∷◌, ◌++◌, length, slice_get, slice_set, replicate, sum_by, take, Some, None, All}
 use Rattle.std.specs.FinMap as map
 use Rattle.txn.specs.declared.refusals.Refusal.{Refusal}
 use Rattle.txn.specs.declared.refusals.Refusal.TheVariants.{BadSession, BadTxn, Gap, Repeat, Backlog, TooLong, NoMemory}

@@ -1,9 +1,11 @@
 //! Which times transactions can have.
-ghost use Rattle.std.specs.Prelude.{◌≡◌, ◌↔◌, ◌+◌, ◌≤◌, ◌<◌, length, IsTrue};
+ghost use Rattle.std.specs.Prelude.{◌≡◌, ◌↔◌, ◌+◌, ◌≤◌, false, length, IsTrue};
 ghost use Rattle.txn.specs.Transactions.{SparesEpoch};
-ghost use Rattle.strict_offers.specs.Offers.{FitsAt, FitsTimes, HaveGoodTimes, unknown};
+ghost use Rattle.strict_histories.specs.Rewriting.{is_earlier};
+ghost use Rattle.strict_offers.specs.Latest.{IsLater, IsLatestBegin};
+ghost use Rattle.strict_offers.specs.Offers.{FitsTimes, HaveGoodTimes, unknown};
 
-use strict_histories::{Span, TimedTxn, has_low_keys, is_timely};
+use strict_histories::{Span, TimedTxn, has_low_keys};
 use txn::{EPOCH, Txn};
 
 /// How many reads a transaction may have.
@@ -47,31 +49,53 @@ fn fits_times(sessions: usize, timed: &TimedTxn) -> bool
         && (spares_epoch(&timed.txn) || is_unknown(timed.span))
 }
 
-/// The same of the one at this place of those that come, behind these of their session.
-fn fits_at(sessions: usize, earlier: &[TimedTxn], given: &[TimedTxn], place: usize) -> bool
-    requires sessions { sessions ≤ 256 }
-    requires place { place < length given.now }
-    ensures { IsTrue result ↔ FitsAt sessions earlier.now given.now place }
+/// The later of two times, as far as they are known.
+fn later(one: Option<u64>, other: Option<u64>) -> Option<u64>
+    ensures { IsLater one other result }
 {
-    let timed = &given[place];
-    if !fits_times(sessions, timed) {
-        return false;
+    match one {
+        None => other,
+        Some(a) => match other {
+            None => one,
+            Some(b) => Some(if a < b { b } else { a }),
+        },
     }
-    if !is_timely(timed.span, earlier) {
-        return false;
-    }
-    is_timely(timed.span, &given[..place])
 }
 
-/// Whether transactions that come can have their times, behind these of their session. It looks at each pair.
+/// When the last of these began, as far as that is known.
+fn latest_begin(txns: &[TimedTxn]) -> Option<u64>
+    ensures { IsLatestBegin txns.now result }
+{
+    let mut latest = None;
+    for txn in txns {
+        latest = later(latest, txn.span.began);
+    }
+    latest
+}
+
+/// Whether the transaction can have its times behind others, of which the last began then.
+fn fits_behind(sessions: usize, latest: Option<u64>, timed: &TimedTxn) -> bool
+    requires { sessions ≤ 256 }
+    ensures { IsTrue result ↔ (FitsTimes sessions timed.now × (is_earlier timed.now.span.ended latest ≡ false)) }
+{
+    let last = Span {
+        began: latest,
+        ended: None,
+    };
+    fits_times(sessions, timed) && !timed.span.ended_before(last)
+}
+
+/// Whether transactions that come can have their times, behind these of their session.
 pub(crate) fn have_good_times(sessions: usize, earlier: &[TimedTxn], given: &[TimedTxn]) -> bool
     requires { sessions ≤ 256 }
     ensures { IsTrue result ↔ HaveGoodTimes sessions earlier.now given.now }
 {
-    for place in 0..given.len() {
-        if !fits_at(sessions, earlier, given, place) {
+    let mut latest = latest_begin(earlier);
+    for timed in given {
+        if !fits_behind(sessions, latest, timed) {
             return false;
         }
+        latest = later(latest, timed.span.began);
     }
     true
 }

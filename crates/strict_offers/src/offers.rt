@@ -158,9 +158,9 @@ impl Offered {
         Ok(())
     }
 
-    /// Takes a fragment with the times of its transactions, in order: of those behind the last of these times none is known. It looks at each
-    /// pair of a new transaction and an earlier one of its session. What a transaction that aborted has read and written is judged as that
-    /// of any other; then it counts as one that did nothing.
+    /// Takes a fragment with the times of its transactions, in order: of those behind the last of these times none is known. It looks once at
+    /// each earlier one of its session. What a transaction that aborted has read and written is judged as that of any other; then it counts
+    /// as one that did nothing.
     pub fn offer(
         &mut self,
         alloc: Global,
@@ -186,7 +186,7 @@ impl Offered {
         }
     }
 
-    /// The parts that a round is about. Time grows with the square of the transactions.
+    /// The parts that a round is about. Time grows with the transactions times the sessions.
     pub fn parts(&self, alloc: Global) -> Result<Parts, NoMemory>
         ensures value { IfOk result (λ parts. parts ≡ strict_parts self.now) }
         ensures good { IfOk result IsGood }

@@ -12,7 +12,7 @@ from ..explain._json import levels_json, say_json, story_json
 from ..explain._levels import Answer, Levels, levels_lines
 from ..explain._report import EXPLAINED, Story, verdict_story, violation_story
 from ..imports._garbage import no_collections
-from ..scripts._running import MORE, ScriptRun, Verdict
+from ..scripts._running import MORE, ScriptRun, Verdict, own_times
 from ..program import _check_report
 from ..program._binaries import find_program
 from ..promises._kinds import ALL, ASKED, STRICT
@@ -190,7 +190,7 @@ def check(asked: argparse.Namespace) -> int:
                     tell(story, asked.all, source.where(verdict))
             if not asked.json:
                 _tell_no_cuts(run)
-                _tell_resumed(run)
+                _tell_how(run)
             if asked.junit is not None:
                 write(junit_report(source.about, stories), asked.junit)
             status = _status(run)
@@ -211,14 +211,14 @@ def explain(asked: argparse.Namespace) -> int:
             asked.status = _status(run)
             where = source.where(run.verdict)
             tell_with_page(story, source.about, asked.html, asked.all, where)
-            _tell_resumed(run)
+            _tell_how(run)
             return _status(run)
 
 
 def levels(asked: argparse.Namespace) -> int:
     with no_collections(), Progress(READING) as progress, given(asked, progress) as source:
         lines = [*source.lines]
-        names, times = source.names(), source.times()
+        names, times = source.names(), own_times(lines) or source.times()
         found = Levels(find_program(), lines, names, times, asked.nodes, asked.shrink_seconds)
         progress.doing = found.doing
         answers = {each.promise.name: each.answer for each in found.found()}
@@ -244,7 +244,12 @@ def _tell_no_cuts(run: ScriptRun) -> None:
         say(f"(no fence was settled at line {', '.join(lines)}{more}: nothing was forgotten there)")
 
 
-def _tell_resumed(run: ScriptRun) -> None:
+def _tell_how(run: ScriptRun) -> None:
+    if run.why_by_reads:
+        say(
+            "(real-time order was asked by reads that are added, which isn't proved, because "
+            f"{run.why_by_reads}: docs/PROMISES.md)"
+        )
     if run.is_resumed:  # what came before isn't in the script
         say("(the script begins with a saved state: the verdict is about every history before it)")
 

@@ -13,9 +13,10 @@ from ..program._auditor import Auditor
 from ..program._binaries import PROGRAM
 from ..program._lines import written
 from ..program._searched_round import GUIDED
+from ..program._strict_auditor import StrictAuditor
 from ..promises._asking import LIMIT, MOST_SESSIONS, SESSIONS, Asking, form_of, ids_of, longest
-from ..promises._asking import most_remaining
-from ..promises._kinds import EVENTS, SERIALIZABLE, SNAPSHOT, Promise
+from ..promises._asking import most_remaining, too_large
+from ..promises._kinds import EVENTS, SERIALIZABLE, SNAPSHOT, STRICT, Promise
 from ..promises._times import Timeline
 from ._arcs import Event, Node
 from ._words import name
@@ -253,13 +254,15 @@ def audited_apart(
         history, places = without_idle(history)
     if ids is None:
         history, places = in_pieces(history, places)
-    asking = Asking(promise, timeline_of(history) if promise.is_timed else None)
+    timeline = timeline_of(history) if promise.is_timed else None
     if is_halved:
         history = in_halves(history)
     count = max(1, sum(map(len, history)))
-    told = SNAPSHOT if promise.asks_itself else SERIALIZABLE
+    told = STRICT if promise == STRICT and takes_times(history) else SERIALIZABLE
+    told = SNAPSHOT if promise.asks_itself else told
+    asking = Asking(promise, timeline, by_reads=told != STRICT)
     limit = min(count, most_remaining(told))
-    with Auditor(len(history), limit, program, promise=told.name) as auditor:
+    with auditor_of(told, len(history), limit, program) as auditor:
         form = form_of(told, len(history), limit)
         if form == [FORM] and not any(it.is_undone for txns in history for it in txns):
             form = []
@@ -276,6 +279,21 @@ def audited_apart(
         script.append(["round", *auditor.effort, GUIDED])
         text = "".join(written(line) + "\n" for line in script)
         return Audited(report, text, tuple(auditor.names), ids, places, is_halved)
+
+
+def takes_times(history: History) -> bool:
+    """Whether the auditor itself can be asked about the history's strict serializability."""
+    did = (logged.did for txns in history for logged in txns)
+    return not too_large(len(history), ((len(reads), len(writes)) for reads, writes in did))
+
+
+def auditor_of(
+    promise: Promise, sessions: int, limit: int, program: str
+) -> Auditor | StrictAuditor:
+    """A new auditor that is asked about this promise."""
+    if promise == STRICT:
+        return StrictAuditor(sessions, limit, program)
+    return Auditor(sessions, limit, program, promise=promise.name)
 
 
 class Holding(Protocol):

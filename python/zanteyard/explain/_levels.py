@@ -6,7 +6,7 @@ from enum import StrEnum
 
 from ..core._records import History, Naming
 from ..core._verdict_kinds import Kind
-from ..core.errors import CantBeAskedError, ScriptMistakeError
+from ..core.errors import CantBeAskedError, OtherVersionError, ScriptMistakeError
 from ..promises._kinds import (
     ALL,
     GENERALIZED,
@@ -103,7 +103,7 @@ class Levels:
             return
         try:
             level = self._by_lines(promise) if promise in BY_LINES else self._by_history(promise)
-        except CantBeAskedError as error:
+        except (CantBeAskedError, OtherVersionError) as error:
             level = Level(promise, Answer.UNKNOWN, str(error))
         except ScriptMistakeError as error:
             if promise == SERIALIZABLE:

@@ -1,8 +1,8 @@
-"""How the auditor is asked about a promise: about snapshot isolation by a script's first line, and
-about real-time order by what is added to transactions (`_times.py`). Its answers have transactions
-as they were offered."""
+"""How the auditor is asked about a promise: by a script's first line, and about strict
+serializability also by the times in its offers. Its answers have transactions as they were offered.
+What it can't be asked so about real-time order is asked by reads that are added (`_times.py`)."""
 
-from collections.abc import Iterator, Sequence
+from collections.abc import Iterable, Iterator, Sequence
 from typing import Any
 
 from ..core._own_keys import FORM, LARGE_FORM, LONGEST
@@ -14,11 +14,8 @@ SESSIONS, MOST_SESSIONS = 64, 256  # of a script of version 1 or 2, and of one o
 LIMIT, MOST = 4096, 1 << 20  # transactions that may remain, in the same way
 KEYS = 1 << 63  # keys of scripts about snapshots are below this
 OPENS = {"open", "resume"}
+STRICTLY = {"open", "offer", "round"}  # the commands of scripts about strict serializability
 PARTS = "a script that continues another one is about the promise that its first line asks for"
-OF_ITSELF = (
-    "a script that asks for strict serializability by itself can't be explained yet: give it to "
-    "cobra_audit, whose reports are of that"
-)
 ANSWERS = (
     "an answer from elsewhere is about serializability: remove the line, and the round is searched"
 )
@@ -46,18 +43,56 @@ def form_of(promise: Promise, sessions: int, limit: int) -> list[Any]:
     `limit` transactions may remain: version 3 only if it needs that."""
     is_small = sessions <= SESSIONS and limit <= most_remaining(promise, FORM)
     form = FORM if is_small else LARGE_FORM
+    if promise == STRICT:
+        return [form, STRICT.name]
     return [form, SNAPSHOT.name] if promise.asks_itself else [form]
 
 
 def asked_in(line: Sequence[Any]) -> Promise | None:
-    """The promise that a script is about if this is its first line; None if it is no such line.
-    Raises CantBeAskedError if it asks for strict serializability, of which no reply is read here
-    yet."""
+    """The promise that a script is about if this is its first line; None if it is no such line."""
     if not line or line[0] not in OPENS or len(line) < 3:
         return None
-    if line[4:] == [STRICT.name]:
-        raise CantBeAskedError(OF_ITSELF)
-    return SNAPSHOT if line[4:] == [SNAPSHOT.name] else SERIALIZABLE
+    asked = [promise for promise in (SNAPSHOT, STRICT) if line[4:] == [promise.name]]
+    return asked[0] if asked else SERIALIZABLE
+
+
+class Whole:
+    """Looks at a script's lines, and finds out whether the auditor itself can be asked about its
+    strict serializability: it takes offers and rounds alone, forgets nothing, and has bounds for a
+    transaction's reads and writes."""
+
+    def __init__(self) -> None:
+        self.why_not = ""  # why it can't
+        self._sessions = 0
+
+    def seen(self, lines: Iterable[Sequence[Any]]) -> Iterator[Sequence[Any]]:
+        """The lines, each looked at on its way."""
+        for line in lines:
+            if not self.why_not:
+                self.why_not = self._why_not(line)
+            yield line
+
+    def _why_not(self, line: Sequence[Any]) -> str:
+        if not line or not isinstance(line[0], str):
+            return ""  # the auditor says what is wrong with it
+        if line[0] not in STRICTLY:
+            return f"the script has a {line[0]!r}"
+        if line[0] == "open" and len(line) > 1 and is_number(line[1]):
+            self._sessions = line[1]
+        if line[0] == "offer" and is_of_transactions(line):
+            return too_large(self._sessions, ((len(it[0]), len(it[1])) for it in line[3]))
+        return ""
+
+
+def too_large(sessions: int, transactions: Iterable[tuple[int, int]]) -> str:
+    """Which of the auditor's bounds a transaction with so many reads and writes is over, in a
+    script about strict serializability with so many sessions; empty if none is."""
+    for reads, writes in transactions:
+        if reads + sessions > LONGEST:
+            return f"a transaction has {reads} reads, over {LONGEST} with the {sessions} sessions"
+        if writes >= LONGEST:
+            return f"a transaction writes {writes} keys, over {LONGEST - 1}"
+    return ""
 
 
 def begun_in(marks: Sequence[Any]) -> Iterator[list[int]]:
@@ -69,17 +104,25 @@ def begun_in(marks: Sequence[Any]) -> Iterator[list[int]]:
 
 class Asking:
     """Asks one run of the auditor about a promise; not for several threads. If `keeps_version`, a
-    script stays of version 2, with half the room where transactions are split."""
+    script stays of version 2, with half the room where transactions are split. If `by_reads`,
+    strict serializability is asked by reads that are added."""
 
     def __init__(
         self,
         promise: Promise = SERIALIZABLE,
         timeline: Timeline | None = None,
         keeps_version: bool = False,
+        by_reads: bool = False,
     ) -> None:
         self.promise, self._keeps_version = promise, keeps_version
         self._timeline = timeline if promise.is_timed else None
-        self._is_own = False  # the script asks by itself
+        self.is_told = promise == STRICT and not by_reads  # when transactions began and ended
+        self._own: Promise | None = None  # that the script asks for by itself
+
+    @property
+    def is_plain(self) -> bool:
+        """Whether lines behind the opening are given as they are."""
+        return self.promise == SERIALIZABLE and self._own == SERIALIZABLE
 
     def asked(self, line: list[Any]) -> list[list[Any]]:
         """The lines that are given in place of this one: one, or two for a long offer. Raises
@@ -87,39 +130,48 @@ class Asking:
         word = line[0] if line and isinstance(line[0], str) else ""
         if word in OPENS:
             return [self._opening(line)]
-        if word == "answer" and self.promise.asks_itself and not self._is_own:
+        if word == "answer" and self.promise.asks_itself and self._own != SNAPSHOT:
             raise CantBeAskedError(ANSWERS)
         if word in ("offer", "join") and is_of_transactions(line):
             return [*self._offered(line)]
         return [line]
 
     def _opening(self, line: list[Any]) -> list[Any]:
-        is_own = asked_in(line) == SNAPSHOT
-        if is_own == self.promise.asks_itself:
-            self._is_own = is_own
+        own = self._own = asked_in(line)
+        asked = STRICT if self.is_told else SNAPSHOT if self.promise.asks_itself else SERIALIZABLE
+        if own == asked:
             return line
         if line[0] == "resume":
             raise CantBeAskedError(PARTS)
-        if is_own:
-            return line[:4]
-        if line[3:] not in ([], [FORM], [LARGE_FORM]) or not all(map(is_number, line[1:3])):
+        plain = line if own == SERIALIZABLE else line[:4]
+        if plain[3:] not in ([], [FORM], [LARGE_FORM]) or not all(map(is_number, plain[1:3])):
             return line  # which the auditor refuses
-        _, sessions, limit, *form = line
+        if asked == SERIALIZABLE:
+            return plain
+        _, sessions, limit, *form = plain
         version = form[0] if form else FORM
+        if asked == STRICT:
+            return ["open", sessions, limit, version, STRICT.name]
         if sessions > most_sessions(version) or limit > most_remaining(SERIALIZABLE, version):
-            return [*line[:3], version, SNAPSHOT.name]  # which it refuses, too
+            return [*plain[:3], version, SNAPSHOT.name]  # which it refuses, too
         if self._keeps_version and version == FORM:
-            return [*line[:2], min(limit, most_remaining(SNAPSHOT, FORM)), FORM, SNAPSHOT.name]
+            return [*plain[:2], min(limit, most_remaining(SNAPSHOT, FORM)), FORM, SNAPSHOT.name]
         limit = min(limit, most_remaining(SNAPSHOT))
         if version == LARGE_FORM:  # its reads may name sessions that version 2 doesn't have
             return ["open", sessions, limit, LARGE_FORM, SNAPSHOT.name]
         return ["open", sessions, limit, *form_of(SNAPSHOT, sessions, limit)]
 
     def _offered(self, line: list[Any]) -> Iterator[list[Any]]:
-        word, session, *place, transactions = line
+        if len(line) > 4 and (self.is_told or self._own != STRICT):
+            yield line  # with its own times, or the auditor refuses it
+            return
+        word, session, *place, transactions = line[:4]
         first = place[0] if place else 0
         if self._timeline is not None:
             check_keys(session, first, transactions)
+            if self.is_told:
+                yield [*line[:4], *self._timeline.told(session, first, len(transactions))]
+                return
             transactions = [
                 self._timeline.rewritten((session, number), transaction)
                 for number, transaction in enumerate(transactions, first)
@@ -150,11 +202,17 @@ def is_number(value: object) -> bool:
 
 def is_of_transactions(line: Sequence[Any]) -> bool:
     """Whether it has the form of an offer or a join. Anything else is left to the auditor."""
-    if len(line) not in ((4,) if line[0] == "offer" else (3, 4)):
+    if len(line) not in ((4, 6) if line[0] == "offer" else (3, 4)):
         return False
-    if not all(map(is_number, line[1:-1])) or not isinstance(line[-1], list):
+    *numbers, transactions = line[1:4]
+    if not all(map(is_number, numbers)) or not isinstance(transactions, list):
         return False
-    return all(map(_is_transaction, line[-1]))
+    return all(map(are_numbers, line[4:])) and all(map(_is_transaction, transactions))
+
+
+def are_numbers(value: object) -> bool:
+    """Whether it is a list of numbers as in lines."""
+    return isinstance(value, list) and all(map(is_number, value))
 
 
 def _is_transaction(transaction: object) -> bool:

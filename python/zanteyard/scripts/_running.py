@@ -1,6 +1,7 @@
 """Runs a saved script through the auditor, and keeps what the script offered."""
 
 import functools
+import itertools
 import json
 import os
 import re
@@ -17,16 +18,19 @@ from ..core._verdict_kinds import Kind
 from ..program._tenancy import Tenancy
 from ..core.errors import (
     CantBeAskedError,
+    OtherVersionError,
     ProgramEndedError,
     ScriptMistakeError,
 )
 from ..program._searched_round import EFFORTS, GUIDED
-from ..promises._asking import KEYS, LIMIT, MOST, MOST_SESSIONS, SESSIONS, Asking, asked_in
+from ..program._strict_auditor import older_than_strict
+from ..promises._asking import KEYS, LIMIT, MOST, MOST_SESSIONS, SESSIONS, Asking, Whole, asked_in
 from ..promises._asking import begun_in, most_remaining
-from ..promises._kinds import SERIALIZABLE, SNAPSHOT, Promise
+from ..promises._kinds import SERIALIZABLE, SNAPSHOT, STRICT, Promise
+from ..promises._times import TIME_KEYS
 from ._forms import mistake_of
 from ._names import NamedTransaction, ScriptNames
-from ._times import ScriptTimes
+from ._times import ScriptTimes, checked_times, times_in
 
 # The efforts with which a spent round is repeated: nodes of the search, depth, workers.
 WORKERS = max(1, min(16, os.cpu_count() or 1))
@@ -79,6 +83,16 @@ OF_SNAPSHOTS: Mapping[str, str] = {
     + f"; under snapshot isolation {most_remaining(SNAPSHOT, FORM):,} remain, in version "
     f"{LARGE_FORM} {most_remaining(SNAPSHOT):,}, and a line has 128",
 }
+# The same in scripts that ask for strict serializability.
+OF_STRICTNESS: Mapping[str, str] = {
+    "Backlog": "as many transactions were offered as `open` has room for, and nothing is forgotten "
+    f"under this promise: give it more room, at most {MOST:,}, or check a part of the history",
+    "BadTxn": ADVICE["BadTxn"] + f"; under this promise keys are below {TIME_KEYS}, reads and the "
+    "script's sessions are at most 256 together, and writes at most 255; nothing ended before it "
+    "began, or before an earlier transaction of its session began; and fences have no times",
+}
+FIRST_ASKS = "a script asks for strict serializability by its first line"
+STRICT_ONLY = "a script that asks for strict serializability has only offers and rounds"
 
 
 @dataclass(frozen=True)
@@ -269,6 +283,25 @@ def _parts_of(text: bytes) -> list[Any]:
     return line if isinstance(line, list) else []
 
 
+def own_promise(lines: Iterable[bytes]) -> tuple[Promise | None, Iterable[bytes]]:
+    """The promise that a script asks for by itself, None if its first line opens nothing; and all
+    its lines."""
+    rest, front = iter(lines), list[bytes]()
+    for line in rest:
+        front.append(line)
+        if line.strip():
+            break
+    return asked_in(_parts_of(front[-1]) if front else []), itertools.chain(front, rest)
+
+
+def own_times(lines: Sequence[bytes]) -> ScriptTimes | None:
+    """The times in the lines of a script that asks for strict serializability by itself; None if it
+    doesn't. Raises CantBeAskedError if they are impossible."""
+    if own_promise(lines)[0] != STRICT:
+        return None
+    return checked_times(times_in(map(_parts_of, lines)), "its offers")
+
+
 class ScriptRun:
     """An auditor that is given a script line by line; not for several threads."""
 
@@ -283,18 +316,13 @@ class ScriptRun:
         """`most_nodes` is the largest budget with which a spent round is repeated. `names` are
         those of the script's transactions and keys, and `times` finds out when the transactions
         began and ended, if that is wanted. The promise is the one that the script asks for, unless
-        one is given. Raises CantBeAskedError if the promise needs times and there are none."""
+        one is given."""
         self._is_given = promise is not None
-        promise = promise or SERIALIZABLE
-        if promise.is_timed and times() is None:
-            raise CantBeAskedError(
-                f"{promise.title} needs the times at which transactions began and ended, and the "
-                "script has none: they belong in a file next to it, SCRIPT.times"
-            )
-        self.most_nodes, self.promise = most_nodes, promise
+        self.most_nodes, self.promise = most_nodes, promise or SERIALIZABLE
         self.history = ScriptHistory(names or ScriptNames(""), find_times=times)
-        self._asking = Asking(promise)
-        self._given = b""  # the last line that the auditor was given
+        self._asking = Asking(self.promise)
+        self.why_by_reads = ""  # why strict serializability is asked by reads that are added
+        self._is_answered = True  # each line that the auditor was given
         self.verdict: Verdict | None = None  # the latest one
         self.no_cut_lines: list[int] = []  # lines of `truncate` that found nothing to forget
         self.is_resumed = False  # it began with an earlier run's state
@@ -321,14 +349,11 @@ class ScriptRun:
         """Gives the lines to the auditor, and yields each round's verdict when it arrives. If
         something follows the last round, one is added at the end. A verdict about a script that
         resumes another one is true of every history that the parts may stand for. Raises
-        ScriptMistakeError at the first line that is refused or that the promise doesn't allow, and
-        ProgramEndedError if the program ends."""
+        ScriptMistakeError at the first line that is refused or that the promise doesn't allow,
+        CantBeAskedError if the promise needs times and there are none, OtherVersionError if the
+        program doesn't know the promise, and ProgramEndedError if the program ends."""
         number = 0
-        if self.promise.is_timed:  # the order is known only when all times are
-            lines = [*lines]
-            timeline = self.history.times.timeline(map(_parts_of, lines))
-            self._asking = Asking(self.promise, timeline)
-        for number, line in enumerate(lines, 1):
+        for number, line in enumerate(self._prepared(lines), 1):
             text = line.rstrip(b"\n")
             if text.strip():
                 try:
@@ -344,6 +369,29 @@ class ScriptRun:
             yield from self._ended("finish", *EFFORTS[0], GUIDED)
         if self._has_more or self.verdict is None:
             yield from self._ended("round", *EFFORTS[0], GUIDED)
+
+    def _prepared(self, lines: Iterable[bytes]) -> Iterable[bytes]:
+        """The lines, once it is known what they are asked about, and how."""
+        own, lines = own_promise(lines)
+        if own and not self._is_given:
+            self.promise = own
+        self._asking = Asking(self.promise)
+        if not self.promise.is_timed:
+            return lines
+        lines = [*lines]  # the order is known only when all times are
+        is_own = own == STRICT
+        times = times_in(map(_parts_of, lines)) if is_own else self.history.find_times()
+        if times is None:
+            raise CantBeAskedError(
+                f"{self.promise.title} needs the times at which transactions began and ended, and "
+                "the script has none: they belong in a file next to it, SCRIPT.times"
+            )
+        self.history.times, whole = times, Whole()
+        timeline = times.timeline(whole.seen(map(_parts_of, lines)))
+        if self.promise == STRICT and not is_own:
+            self.why_by_reads = whole.why_not
+        self._asking = Asking(self.promise, timeline, by_reads=bool(self.why_by_reads))
+        return lines
 
     def _ended(self, *command: Any) -> Iterator[Verdict]:
         """Ends a round by a command that the script doesn't have."""
@@ -439,6 +487,8 @@ class ScriptRun:
     def _advice(self, refusal: str, text: bytes) -> str:
         if self.promise.asks_itself and refusal in OF_SNAPSHOTS:
             return OF_SNAPSHOTS[refusal]
+        if self._asking.is_told and refusal in OF_STRICTNESS:
+            return OF_STRICTNESS[refusal]
         if refusal == "BadLine":
             return mistake_of(text) or self._misplaced(_parts_of(text)) or ADVICE[refusal]
         return ADVICE.get(refusal, "")
@@ -452,7 +502,11 @@ class ScriptRun:
             return 'up to ["resumed"] only the saved state is allowed (docs/FORMATS.md)'
         if opens or line[:1] in (["marks"], ["last"], ["resumed"]):
             return "the script is open already, and only its beginning can open it"
+        if self._asking.is_told and line[:1] not in (["offer"], ["round"]):
+            return STRICT_ONLY
         if line[:1] == ["offer"] and len(line) > 4:
+            if self._asking.is_told:
+                return "it has as many begins and ends as transactions"
             return 'times need a script that begins with ["open",..,..,2,"strict"]'
         if line[:1] in (["offer"], ["join"]) and any(ABORTED in txn for txn in line[-1]):
             return '"aborted" needs a script of version 2, which begins with ["open",..,..,2]'
@@ -460,19 +514,25 @@ class ScriptRun:
 
     def _reply_to(self, text: bytes) -> list[Any]:
         """The reply to the line, or to the last one of those that are given in its place."""
-        if self._is_open and self.promise == SERIALIZABLE:
+        if self._is_open and self._asking.is_plain:
             return self._told(text)
         line = _parts_of(text)
-        asked = asked_in(line)
-        if asked and not self._is_given and not self._is_open:
-            self.promise, self._asking = asked, Asking(asked)
+        own = asked_in(line)
+        if own and own != self.promise and not (self._is_given or self._is_open):
+            if own == STRICT:  # its times weren't looked for
+                raise CantBeAskedError(FIRST_ASKS)
+            self.promise, self._asking = own, Asking(own)  # it begins anew
         given = self._asking.asked(line)
         if given == [line]:
-            return self._told(text)
-        for each in given:  # nothing is sent after one that is refused
-            reply = self._told_again(json.dumps(each).encode())
-            if reply[0] == "no":
-                break
+            reply = self._told(text)
+        else:
+            for each in given:  # nothing is sent after one that is refused
+                reply = self._told_again(json.dumps(each).encode())
+                if reply[0] == "no":
+                    break
+        is_strict = not self._is_open and asked_in(given[0]) == STRICT
+        if is_strict and reply[0] == "no" and reply[2] == "BadLine" and not mistake_of(text):
+            raise OtherVersionError(older_than_strict(self.path))
         return reply
 
     def _told_again(self, text: bytes) -> list[Any]:
@@ -485,7 +545,7 @@ class ScriptRun:
         return self._told(text)
 
     def _told(self, text: bytes) -> list[Any]:
-        self._given = text
+        self._is_answered = False
         pipes = self._program.stdin, self._program.stdout
         assert pipes[0] is not None and pipes[1] is not None
         try:
@@ -497,10 +557,13 @@ class ScriptRun:
         if not answer:
             raise ProgramEndedError(f"the auditor ended with status {self._program.wait()}")
         reply: list[Any] = json.loads(answer)
+        self._is_answered = True
         return reply
 
     def end(self) -> None:
-        """Ends the program."""
+        """Ends the program, also in the middle of a search that was interrupted."""
+        if not self._is_answered:
+            self._program.kill()
         for pipe in (self._program.stdin, self._program.stdout, self._program.stderr):
             try:
                 if pipe is not None:

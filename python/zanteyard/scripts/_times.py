@@ -12,7 +12,7 @@ from ..core._private_files import private
 from ..core._records import AuditId
 from ..core.errors import CantBeAskedError
 from ..promises._asking import is_of_transactions
-from ..promises._times import Span, Timeline, mistake_in
+from ..promises._times import UNKNOWN_BEGIN, UNKNOWN_END, Span, Timeline, mistake_in
 
 TIMES = ".times"
 UNITS = ("ns", "places")  # nanoseconds, or the order of events in a file
@@ -20,7 +20,8 @@ UNITS = ("ns", "places")  # nanoseconds, or the order of events in a file
 
 @dataclass(frozen=True)
 class ScriptTimes:
-    """The times of a script's transactions, as far as they are known."""
+    """The times of a script's transactions, as far as they are known. The unit is empty if it is
+    unknown."""
 
     unit: str = "ns"
     spans: Mapping[AuditId, Span] = field(default_factory=dict)
@@ -43,9 +44,22 @@ class ScriptTimes:
 
 def _offered(line: Sequence[Any]) -> Iterator[tuple[AuditId, Sequence[Any]]]:
     if line and line[0] in ("offer", "join") and is_of_transactions(line):
-        first = 0 if len(line) == 3 else line[2]
-        for number, transaction in enumerate(line[-1], first):
-            yield AuditId((line[1], number)), transaction
+        _, session, *place, transactions = line[:4]
+        for number, transaction in enumerate(transactions, *place):
+            yield AuditId((session, number)), transaction
+
+
+def times_in(lines: Iterable[Sequence[Any]]) -> ScriptTimes:
+    """The times in the offers of a script that asks for strict serializability by itself. By which
+    clock they are isn't told."""
+    spans: dict[AuditId, Span] = {}
+    for line in lines:
+        if line and line[0] == "offer" and len(line) == 6 and is_of_transactions(line):
+            for number, (began, ended) in enumerate(zip(*line[4:]), line[2]):
+                if (began, ended) != (UNKNOWN_BEGIN, UNKNOWN_END):
+                    end = None if ended == UNKNOWN_END else ended
+                    spans[AuditId((line[1], number))] = (began, end)
+    return ScriptTimes("", spans)
 
 
 def _has_order(transaction: Sequence[Any]) -> bool:

@@ -1,20 +1,22 @@
 use Rattle.std.proofs.Common.{◌≡◌, true, refl}
-use Rattle.std.proofs.lemmas.Bool.{false≢true}
-use Rattle.strict_offers.proofs.Timed.{fits_all, fits_more}
+use Rattle.strict_offers.proofs.LatestBegins.{latest_behind}
+use Rattle.strict_offers.proofs.Timed.{fits_all, fits_more, fits_shown}
 use Rattle.strict_offers.proofs.fitting.have_good_times.Goals as goal
 
-pub returns-then-not-fits_at : goal.returns-then-not-fits_at
-returns-then-not-fits_at c = (
-  λ no. absurd (false≢true no),
-  λ good.
-      let yes : c.fits_at.result ≡ true = c.fits_at.ensures.1 (good c.loop-place.place) in
-      cc,
-)
-
-pub loop-place-preserved : goal.loop-place-preserved
-loop-place-preserved c =
-    let yes : c.fits_at.result ≡ true = cc in
-    fits_more c.args.sessions c.args.earlier.now c.args.given.now c.loop-place.place c.loop-place.invariant (c.fits_at.ensures.0 yes)
+pub loop-timed-preserved : goal.loop-timed-preserved
+loop-timed-preserved c =
+    let sessions = c.args.sessions in
+    let earlier = c.args.earlier.now in
+    let given = c.args.given.now in
+    let place = c.loop-timed.timed-index in
+    let timed = c.timed-item.result in
+    let yes : c.fits_behind.result ≡ true = cc in
+    let fits = c.fits_behind.ensures.0 yes in
+    let sides = (c.loop-timed.invariant.latest timed.span.ended).0 fits.1 in
+    record {
+      fit = fits_more sessions earlier given place c.loop-timed.invariant.fit (fits_shown sessions earlier given place timed c.loop-timed-test.true c.timed-item.is fits.0 sides.0 sides.1);
+      latest = latest_behind earlier given place timed c.loop-timed.latest c.later-latest.result c.loop-timed-test.true c.timed-item.is c.loop-timed.invariant.latest c.later-latest.ensures;
+    }
 
 pub returns : goal.returns
-returns c = (λ _. fits_all c.args.sessions c.args.earlier.now c.args.given.now c.loop-place.place c.loop-place-test.false c.loop-place.invariant, λ _. refl)
+returns c = (λ _. fits_all c.args.sessions c.args.earlier.now c.args.given.now c.loop-timed.timed-index c.loop-timed-test.false c.loop-timed.invariant.fit, λ _. refl)

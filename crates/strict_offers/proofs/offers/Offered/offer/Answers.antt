@@ -5,7 +5,7 @@ use Rattle.txn.specs.declared.transactions.Txn.{Txn}
 use Rattle.txn.specs.History.{session_of}
 use Rattle.txn.specs.Transactions.{FragmentFault, IsWellFormedFragment}
 use Rattle.strict_histories.specs.declared.timed.TimedTxn.{TimedTxn}
-use Rattle.strict_offers.specs.Offers.{AreGoodOffers, HaveGoodTimes, IsTaken, OfferedState, TimesFault, offered, timed_effects, with_times}
+use Rattle.strict_offers.specs.Offers.{AreGoodOffers, HaveGoodTimes, OfferedState, TimesFault, offered, timed_effects, with_times}
 use Rattle.strict_offers.proofs.OffersKept.{taken_by}
 use Rattle.strict_offers.proofs.Refusing.{fragment_refused, times_refused}
 use Rattle.strict_offers.proofs.offers.Offered.offer.Goals as goal

@@ -2,7 +2,7 @@ use Rattle.std.proofs.Common.{◌∙◌, List, sym, ap, subst}
 use Rattle.order_check.specs.Good.{IsGood}
 use Rattle.strict_histories.specs.declared.timed.TimedTxn.{TimedTxn}
 use Rattle.strict_histories.specs.Rewriting.{HasRoomForTimes}
-use Rattle.strict_offers.specs.Offers.{OfferedState, strict_parts}
+use Rattle.strict_offers.specs.Offers.{strict_parts}
 use Rattle.strict_offers.proofs.offers.Offered.parts.Goals as goal
 
 pub parts_of-requires : goal.parts_of-requires
