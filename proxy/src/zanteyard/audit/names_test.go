@@ -192,7 +192,8 @@ func hearSlot(t *testing.T, plugin slot.Plugin) {
 	}
 }
 
-// mayMean: that an operator or a schema was made is noticed, also if it was dropped again by then, or undone.
+// mayMean: that an operator or a schema was made is noticed, also if it was dropped again by then, or undone; and that a role
+// was renamed.
 func mayMean(t *testing.T, conn *pgconn.PgConn, control *slot.Control) {
 	t.Helper()
 	const makes, drops = "CREATE OPERATOR public.@@@@ (LEFTARG = int, RIGHTARG = int, FUNCTION = int4eq)", "DROP OPERATOR public.@@@@ (int, int)"
@@ -204,6 +205,8 @@ func mayMean(t *testing.T, conn *pgconn.PgConn, control *slot.Control) {
 		{"BEGIN; " + makes + "; ROLLBACK", false}, {"BEGIN; " + makes + "; PREPARE TRANSACTION 'made'", false},
 		{"COMMIT PREPARED 'made'", true}, {drops, true}, {"CREATE SCHEMA made; COMMIT; DROP SCHEMA made", true},
 		{"CREATE TABLE made (id int); COMMIT; DROP TABLE made", false}, {"VACUUM ANALYZE", false},
+		{"CREATE ROLE made", true}, {"ALTER ROLE made RENAME TO other", true}, {"ALTER ROLE other CONNECTION LIMIT 5", false},
+		{"CREATE ROLE more", true}, {"BEGIN; ALTER ROLE other RENAME TO made; ALTER ROLE more RENAME TO other; COMMIT", true},
 	} {
 		must(t, conn, one.text)
 		if place, err := control.Place(context.Background()); err != nil || place.MayMean != one.want {

@@ -7,25 +7,29 @@ import "zanteyard/own"
 var encodingSQL = own.SQL(`SELECT pg_catalog.getdatabaseencoding()`)
 
 // PathSQL is a SELECT of one text: the schemas in which a connection looks for names, in order. The first one is "" if that may
-// change without a change of a schema: the setting names one that its user may use as a member of a role, or not at all. The
-// server looks at a membership only when some schema changes, a temporary one of another connection's perhaps.
+// change without a change of a schema: the setting names one that its user may use as a member of a role, or not at all, or
+// they aren't what the setting names, since the user was renamed. The server looks at memberships and at a user's name only when
+// some schema changes, a temporary one of another connection's perhaps, or once something has run as another user.
 const PathSQL = `SELECT pg_catalog.array_to_json(pg_catalog.array_cat(CASE
-  WHEN pg_catalog.current_setting('search_path') OPERATOR(pg_catalog.!~) '` + readPath + `' OR EXISTS (` + unsureSchemas + `)
-  THEN ARRAY[''::pg_catalog.name] ELSE '{}'::pg_catalog.name[] END, pg_catalog.current_schemas(false)))::pg_catalog.text`
+  WHEN pg_catalog.current_setting('search_path') OPERATOR(pg_catalog.~) '` + readPath + `' AND coalesce(` + sureSchemas + `,
+    pg_catalog.current_schemas(false) OPERATOR(pg_catalog.=) '{}'::pg_catalog.name[])
+  THEN '{}'::pg_catalog.name[] ELSE ARRAY[''::pg_catalog.name] END, pg_catalog.current_schemas(false)))::pg_catalog.text`
 
 const (
 	// readPath are the forms of search_path that are read here: names without capitals, or quoted ones without commas and quotes.
 	readPath = `^ *("[^",]*"|[a-z0-9_$]*)( *, *("[^",]*"|[a-z0-9_$]*))* *$`
-	// unsureSchemas are the schemas that the setting names and that the user may not use by a right of its own. To be a superuser is
-	// none, since that may end; a right that somebody else than the owner has granted doesn't count. It names no table that
-	// somebody may not read, and has to be cheap to plan: it is asked often.
-	unsureSchemas = `SELECT FROM pg_catalog.pg_namespace n
-  WHERE n.nspname OPERATOR(pg_catalog.=) ANY (pg_catalog.array_replace(pg_catalog.string_to_array(pg_catalog.translate(
-    pg_catalog.regexp_replace(pg_catalog.btrim(pg_catalog.current_setting('search_path')), ' *, *', ',', 'g'), '"', ''), ','),
-    '$user', current_user::pg_catalog.text)::pg_catalog.name[])
-  AND NOT coalesce(pg_catalog.aclcontains(` + rights + `, pg_catalog.makeaclitem(
+	// sureSchemas says of the schemas that the setting names whether the user may use them all by a right of its own, and looks
+	// for names in these; NULL if there are none. To be a superuser is no right, since that may end; one that somebody else than
+	// the owner has granted doesn't count. It names no table that somebody may not read, and has to be cheap to plan: it is asked often.
+	sureSchemas = `(SELECT pg_catalog.bool_and(coalesce(pg_catalog.aclcontains(` + rights + `, pg_catalog.makeaclitem(
     ` + me + `, n.nspowner, 'USAGE', false)) OR pg_catalog.aclcontains(` + rights + `, pg_catalog.makeaclitem(
-    0::pg_catalog.oid, n.nspowner, 'USAGE', false)), false)`
+    0::pg_catalog.oid, n.nspowner, 'USAGE', false)), false)) AND pg_catalog.current_schemas(false) OPERATOR(pg_catalog.=)
+    pg_catalog.array_agg(n.nspname ORDER BY pg_catalog.array_position(path.its, n.nspname))
+  FROM (SELECT ` + named + ` AS its OFFSET 0) path, pg_catalog.pg_namespace n
+  WHERE n.nspname OPERATOR(pg_catalog.=) ANY (path.its))`
+	named = `pg_catalog.array_replace(pg_catalog.string_to_array(pg_catalog.translate(
+    pg_catalog.regexp_replace(pg_catalog.btrim(pg_catalog.current_setting('search_path')), ' *, *', ',', 'g'), '"', ''), ','),
+    '$user', current_user::pg_catalog.text)::pg_catalog.name[]`
 	rights = `coalesce(n.nspacl, pg_catalog.acldefault('n', n.nspowner))`
 	me     = `pg_catalog.to_regrole(pg_catalog.quote_ident(current_user::pg_catalog.text))::pg_catalog.oid`
 )

@@ -76,6 +76,8 @@ type Definitions struct {
 	whole  time.Duration   // by the last look, and loading the catalog if it did
 	looked time.Time       // when it ended
 	loads  atomic.Uint64   // counts how often the catalog was loaded
+	made   atomic.Uint64   // counts the calls of Remade
+	seen   atomic.Uint64   // what made was before the last look that has succeeded
 }
 
 // New makes definitions that aren't loaded yet: Run loads them.
@@ -137,16 +139,18 @@ func Open(ctx context.Context, config *pgconn.Config, every time.Duration, log f
 // renew loads the catalog if it has changed. A change between reading the mark and the catalog is seen by the next
 // check.
 func (d *Definitions) renew(ctx context.Context, conn *pgconn.PgConn) error {
-	began := time.Now()
+	made, began := d.made.Load(), time.Now()
 	mark, err := own.One(ctx, conn, markText)
 	if d.took = append(d.took, time.Since(began)); len(d.took) > compared {
 		d.took = d.took[1:]
 	}
-	if err != nil || mark == d.mark {
-		return err
+	if err == nil && mark != d.mark {
+		if err = d.load(ctx, conn); err == nil {
+			d.mark = mark
+		}
 	}
-	if err = d.load(ctx, conn); err == nil {
-		d.mark = mark
+	if err == nil {
+		d.seen.Store(made)
 	}
 	return err
 }
@@ -215,6 +219,19 @@ func (d *Definitions) Changed() {
 	case d.wake <- struct{}{}:
 	default:
 	}
+}
+
+// Remade reports that somebody has made, changed or dropped what names may mean. It doesn't wait.
+func (d *Definitions) Remade() {
+	d.made.Add(1)
+	d.Changed()
+}
+
+// Made returns how often that was reported, and of how many such reports the catalog shows what they were about. Who asks for
+// a plan after that gets one of this catalog, or of a newer one.
+func (d *Definitions) Made() (made, seen uint64) {
+	seen = d.seen.Load()
+	return d.made.Load(), seen
 }
 
 // Run loads the catalog and checks for changes until ctx ends. It calls loaded when there is a catalog for the first

@@ -126,3 +126,37 @@ func TestLoadsAreFew(t *testing.T) {
 	cancel()
 	<-over
 }
+
+// TestMade: what the audit has seen being made counts as known once a look has succeeded that began after that.
+func TestMade(t *testing.T) {
+	d, conn := open(t, time.Hour)
+	ctx := context.Background()
+	if made, seen := d.Made(); made != 0 || seen != 0 {
+		t.Errorf("at first %d were made, and %d seen", made, seen)
+	}
+	for i, change := range []string{"SELECT 1", "CREATE SCHEMA made", "SELECT 1"} {
+		sql(t, conn, change)
+		d.Remade()
+		if made, seen := d.Made(); made != uint64(i+1) || seen != uint64(i) {
+			t.Errorf("before a look %d were made, and %d seen", made, seen)
+		}
+		loads := d.loads.Load()
+		if err := d.renew(ctx, conn); err != nil {
+			t.Fatal(err)
+		}
+		if made, seen := d.Made(); made != uint64(i+1) || seen != made {
+			t.Errorf("after a look %d were made, and %d seen", made, seen)
+		}
+		if loaded := d.loads.Load() > loads; loaded != (i < 2) {
+			t.Errorf("after %s: loaded %v", change, loaded)
+		}
+	}
+	d.Remade()
+	conn.Close(ctx)
+	if err := d.renew(ctx, conn); err == nil {
+		t.Error("a look without a connection has succeeded")
+	}
+	if made, seen := d.Made(); made != 4 || seen != 3 {
+		t.Errorf("after a look that failed %d were made, and %d seen", made, seen)
+	}
+}

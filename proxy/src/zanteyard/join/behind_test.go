@@ -187,3 +187,138 @@ func TestRoundsWithoutMeetings(t *testing.T) {
 		return checking > 2 && s.lined("round") > 3
 	})
 }
+
+// How many come between two meetings, and may remain, follows from how long rounds take.
+func TestPace(t *testing.T) {
+	const second = time.Second
+	type round struct {
+		n    int
+		took time.Duration
+		fit  int
+		left uint64 // for want of room
+	}
+	for _, one := range []struct {
+		name   string
+		rounds []round
+	}{
+		{"fast ones", []round{{100, second / 1000, 8_192, 0}, {8_000, second / 5, 17_888, 0}, {18_000, second / 10, 56_920, 0}, {60_000, second / 100, 131_072, 0}}},
+		{"slow ones", []round{{10_000, second, 9_999, 0}, {10_000, 4 * second, 4_999, 0}, {5_000, 400 * second, 1_249, 0}, {1_249, 100 * second, 1_024, 0}}},
+		{"slow for another reason", []round{{1_023, 10 * second, 8_192, 0}, {10_000, 100 * second, 2_048, 0}, {1_023, second / 100, 8_192, 0}}},
+		{"some are left out", []round{{10_000, second, 7_071, 1}, {10_000, second, 4_999, 1}, {10_000, second, 3_535, 1}, {10_000, second, 3_535, 9},
+			{4_000, second / 8, 3_999, 0}, {4_000, second / 20, 7_071, 0}}},
+	} {
+		b := newBench(t, Options{Sessions: 256, Limit: 131_072})
+		for _, its := range one.rounds {
+			b.core.remain = its.n
+			b.core.roundAsked(1)
+			b.later(its.took)
+			b.core.counts.folded[noRoom] += its.left
+			b.core.roundAnswered(0)
+			if b.core.fit != its.fit {
+				t.Errorf("%s: after %d in %v so many fit: %d, wanted %d", one.name, its.n, its.took, b.core.fit, its.fit)
+			}
+			most := least(greatest(3*its.fit, 2048), 131_072)
+			if room := b.core.room(); room != most-512-its.n {
+				t.Errorf("%s: there is room for %d", one.name, room)
+			}
+		}
+	}
+	b := newBench(t, Options{Sessions: 1, Limit: 4})
+	b.core.remain = 4
+	b.core.roundAsked(1)
+	b.later(time.Hour).core.roundAnswered(0)
+	if b.core.most != 4 || b.core.fit != 4 {
+		t.Errorf("of a limit of 4 it leaves %d and %d", b.core.most, b.core.fit)
+	}
+	b = newBench(t, Options{Sessions: 1}) // while a round takes long, less room is left
+	b.core.remain = 5_000
+	b.core.roundAsked(1)
+	for _, x := range []struct {
+		passed time.Duration
+		most   int
+	}{{second, 13_192}, {2 * second, 7_500}, {4 * second, 6_250}, {100 * second, 6_024}} {
+		if b.core.now = b.now.Add(x.passed); b.core.mostNow() != x.most {
+			t.Errorf("after %v %d may remain, wanted %d", x.passed, b.core.mostNow(), x.most)
+		}
+	}
+}
+
+// A slow round leaves less room, which is told, and everything that there is room for is still offered.
+func TestLessRoomAfterASlowRound(t *testing.T) {
+	b := newBench(t, Options{Sessions: 1, Limit: 8192})
+	b.connect(1)
+	var told []Event
+	j := &Joiner{core: b.core, output: kept{&told}, unanswered: 1}
+	place := uint64(0)
+	tell := func(n int) {
+		for ; n > 0; n-- {
+			b.tell(1, place, record.Transaction{Reads: []record.Read{read("a", 7)}})
+			place++
+		}
+		j.lookBehind()
+	}
+	round := func(took time.Duration) {
+		b.later(time.Millisecond).core.meet(b.now)
+		b.pass()
+		b.core.roundAsked(1)
+		b.later(took).core.roundAnswered(0)
+		b.core.cut([]uint64{b.core.sessions[0].written})
+		b.model.sessions[0].mark = int(b.core.sessions[0].written)
+	}
+	tell(2000)
+	round(4 * time.Second)
+	tell(2000)
+	round(4 * time.Second)
+	if tell(3*1024 - 2); b.core.counts.folded[noRoom] != 0 || len(told) > 0 {
+		t.Errorf("%d are left out, told %v", b.core.counts.folded[noRoom], told)
+	}
+	tell(100)
+	if n := b.core.counts.folded[noRoom]; n != 100 {
+		t.Errorf("%d are left out", n)
+	}
+	if warning, is := told[0].(Warning); len(told) != 1 || !is || !strings.Contains(warning.Text, "it is given 3072 transactions at a time") {
+		t.Errorf("told: %+v", told)
+	}
+}
+
+// Sessions meet when so much was offered as a round should have, though that folds much; and for those that find no session
+// less often if all others work.
+func TestMeetingsByWhatWasOffered(t *testing.T) {
+	b := newBench(t, Options{Sessions: 16})
+	busy := func() int { return 9 }
+	b.core.meet(b.now)
+	last := b.now
+	for _, one := range []struct {
+		since  int
+		passed time.Duration
+		want   bool
+	}{{firstFit - 1, time.Second, false}, {firstFit, time.Second/4 - 1, false}, {firstFit, time.Second / 4, true}} {
+		b.core.since, b.core.counts.folded[acrossMoment] = one.since, 1_000_000
+		b.core.now = last.Add(one.passed)
+		if got := b.core.wantsMeeting(last, busy); got != one.want {
+			t.Errorf("%+v: a meeting is wanted: %v", one, got)
+		}
+	}
+	b.core.since, b.core.short = 0, true
+	for n := 13; n <= 14; n++ {
+		for len(b.core.sessions) < 14 {
+			b.core.sessions = append(b.core.sessions, &session{})
+		}
+		for i, s := range b.core.sessions {
+			s.fenced = i >= n
+		}
+		for _, x := range []struct {
+			passed time.Duration
+			want   bool
+		}{{time.Second/4 - 1, false}, {time.Second / 4, n < 14}, {time.Second/2 - 1, n < 14}, {time.Second / 2, true}} {
+			b.core.now = last.Add(x.passed)
+			if got := b.core.wantsMeeting(last, busy); got != x.want {
+				t.Errorf("with %d sessions of 16 that were used, after %v a meeting is wanted: %v", n, x.passed, got)
+			}
+		}
+	}
+	b.core.unchecked, b.core.took = 1, 400*time.Millisecond
+	if b.core.wantsRound(b.core.now.Add(1-2*time.Second)) || !b.core.wantsRound(b.core.now.Add(-2*time.Second)) {
+		t.Error("rounds without a meeting take more than a fifth of the time, or aren't wanted")
+	}
+}

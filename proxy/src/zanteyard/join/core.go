@@ -29,16 +29,22 @@ type core struct {
 	database    string   // the slot's; empty if any will do
 	held        []*entry // whose outcome isn't known yet
 	moments     moments
-	fencedAt    moments   // those of them that have fences in all sessions
-	ended       time.Time // when the last one of the named transactions had ended
-	last        name      // the last fence
-	met         time.Time // its moment
-	metAt       uint64    // the place of the last commit that the slot had reported then
-	short       bool      // since the last meeting a connection that works has found no session
-	remain      int       // how many transactions count towards the limit: named, and not gone
-	bytes       int       // about how many bytes these take
-	asking      time.Time // since when a round isn't answered; zero if each is
-	full        time.Time // since when there is no room; zero if there is
+	fencedAt    moments       // those of them that have fences in all sessions
+	ended       time.Time     // when the last one of the named transactions had ended
+	last        name          // the last fence
+	met         time.Time     // its moment
+	metAt       uint64        // the place of the last commit that the slot had reported then
+	short       bool          // since the last meeting a connection that works has found no session
+	remain      int           // how many transactions count towards the limit: named, and not gone
+	bytes       int           // about how many bytes these take
+	asking      time.Time     // since when a round isn't answered; zero if each is
+	inRound     int           // how many it is about
+	took        time.Duration // by the last one that was answered
+	fit         int           // how many should come between two meetings, by the time that rounds take
+	most        int           // how many may remain, by the same
+	good        time.Duration // how long a round should take
+	leftBefore  uint64        // how many were left out for want of room up to the last round
+	full        time.Time     // since when there is no room; zero if there is
 
 	rows       *rows
 	writers    map[uint32]*writer   // those that only the slot or only a session has reported
@@ -100,7 +106,9 @@ func newCore(opt Options, tables Tables, base uint32, out func([]byte), now time
 		batch:       1,
 		counts:      newCounts(),
 		questions:   newConditions(opt.Conditions),
+		good:        goodRound,
 	}
+	c.fits(firstFit)
 	for i := 0; i < opt.First; i++ {
 		c.sessions = append(c.sessions, &session{index: i, fenced: true})
 	}

@@ -37,8 +37,8 @@ type Place struct {
 	Rewritten []Rewritten
 	// Remade means that operators, casts or functions have been made or dropped by names that conditions use.
 	Remade bool
-	// MayMean says that some operator or schema may have been made, changed or dropped since the last place, though all may
-	// be as it was: names of operators may have meant something else for a while.
+	// MayMean says that some operator or schema may have been made, changed or dropped since the last place, or a role renamed,
+	// though all may be as it was: names may have meant something else for a while.
 	MayMean bool
 	// Reread says that the server's settings were read again since the last place: transactions may begin at another level, and
 	// names may be looked up by another path.

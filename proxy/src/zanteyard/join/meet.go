@@ -83,9 +83,8 @@ func (j *Joiner) endMeeting() {
 		j.core.decideBeyond()
 	}
 	j.core.round()
-	if j.unanswered++; j.unanswered == 1 {
-		j.core.asking = j.core.now
-	}
+	j.unanswered++
+	j.core.roundAsked(j.unanswered)
 	isLast := j.meeting.isLast
 	j.meeting = meeting{}
 	if isLast {

@@ -46,12 +46,29 @@ func (m *meeting) waits() time.Duration {
 }
 
 // room returns how many more transactions may be named.
-func (c *core) room() int { return c.opt.Limit - c.opt.fenceRoom() - c.remain }
+func (c *core) room() int { return c.mostNow() - c.opt.fenceRoom() - c.remain }
 
-// isShort reports whether a meeting is wanted soon: before nothing more is taken, or since connections that work have no
-// session.
-func (c *core) isShort() bool {
-	return c.room() <= c.opt.Limit/8 || c.bytes >= c.opt.Bytes/8*7 || c.short
+// isShort reports whether a meeting is wanted soon: before nothing more is taken, before a round takes long, or since
+// connections that work have no session.
+func (c *core) isShort() bool { return c.isShortOfRoom() || c.short }
+
+func (c *core) isShortOfRoom() bool {
+	return c.room() <= c.most/8 || c.bytes >= c.opt.Bytes/8*7 || c.since >= c.fit
+}
+
+// soonest is how soon a meeting that is wanted soon may follow the last one. If nearly all sessions that there can be have been
+// used since, another one hands on few.
+func (c *core) soonest() time.Duration {
+	used := 0
+	for _, s := range c.sessions {
+		if !s.fenced {
+			used++
+		}
+	}
+	if !c.isShortOfRoom() && used >= c.opt.Sessions-c.opt.Sessions/8 {
+		return c.opt.Between / 2
+	}
+	return c.opt.Between / 4
 }
 
 // worth is how many offered transactions a meeting should let the auditor forget for each one that it folds.
@@ -65,7 +82,7 @@ func (c *core) wantsMeeting(last time.Time, busy func() int) bool {
 	case c.short && c.last == initial:
 		return true // no session can join before there is a fence
 	case c.isShort():
-		return passed >= c.opt.Between/4
+		return passed >= c.soonest()
 	case c.since == 0 || passed < c.opt.Between:
 		return false
 	case passed >= c.opt.Within:
@@ -75,9 +92,10 @@ func (c *core) wantsMeeting(last time.Time, busy func() int) bool {
 	return uint64(c.since)/worth >= folded || busy() == 0
 }
 
-// wantsRound reports whether it is time for a round without a meeting.
+// wantsRound reports whether it is time for a round without a meeting. These take a fifth of the auditor's time at most.
 func (c *core) wantsRound(last time.Time) bool {
-	return c.unchecked > 0 && c.now.Sub(last) >= c.opt.Between
+	passed := c.now.Sub(last)
+	return c.unchecked > 0 && passed >= c.opt.Between && passed >= 5*c.took
 }
 
 // fence is one that may remain.

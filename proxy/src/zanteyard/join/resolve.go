@@ -237,9 +237,13 @@ func (c *core) isFromBefore(table record.Relation, it *record.Transaction) bool 
 	return is && !began.After(c.began.Add(at))
 }
 
-// comparedAsUsual reports whether no operator was seen to have been made or dropped since the transaction may have begun.
+// comparedAsUsual reports whether no operator was seen to have been made or dropped since the transaction may have begun. What
+// another machine's proxy takes names for may be of a while before.
 func (c *core) comparedAsUsual(e *entry) bool {
 	began, _ := span(&e.its)
+	if !e.its.Known.IsZero() {
+		began = began.Add(-settles)
+	}
 	return began.After(c.questions.remade)
 }
 

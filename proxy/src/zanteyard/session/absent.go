@@ -11,6 +11,7 @@ import (
 type asked struct {
 	key   record.Key
 	known bool
+	stale bool // what its names mean may just have changed
 }
 
 // absent records a whole key that was asked for and not found, if it is known in which snapshot.
@@ -25,6 +26,8 @@ func (s *Session) absent(p *plan.Plan, e *expectation, noted *record.Statement) 
 		reason = "a row that wasn't there, at read committed or for an unknown key"
 	case s.status != 'T':
 		reason = "a row that wasn't there, asked for by a transaction of one statement"
+	case its.stale:
+		reason = "a row that wasn't there: " + justChanged
 	case reason == "" && e.replaced:
 		reason = maybeAnother
 	case reason == "" && !e.knowsTables():

@@ -158,7 +158,7 @@ func (s *Session) query(o *output, m []byte, start, end int) {
 		}
 		if st.plan.Asked && s.wantsAbsent() {
 			st.asked.key, st.asked.known = st.plan.AskedKey(st.text, st.tokens, nil, nil, nil)
-			st.asked.known = st.asked.known && s.askable(st.asked.key)
+			st.asked.known, st.asked.stale = st.asked.known && s.askable(st.asked.key), !s.isUpToDate()
 		}
 		e.asking = s.asksBy(st, condition.Arguments{})
 	} else {
@@ -341,7 +341,7 @@ func (s *Session) bindHidden(o *output, b *wire.Bind, st *statement, p *portal) 
 	o.buf = b.Append(o.own(), name, p.hidden)
 	if st.plan.Asked && s.wantsAbsent() {
 		p.asked.key, p.asked.known = st.plan.AskedKey(st.text, st.tokens, b.Parameters, s.formats(b), declared(st.types))
-		p.asked.known = p.asked.known && s.askable(p.asked.key)
+		p.asked.known, p.asked.stale = p.asked.known && s.askable(p.asked.key), !s.isUpToDate()
 	}
 	if st.plan.Follows() {
 		p.asking = s.asksBy(st, s.arguments(b, st))

@@ -24,6 +24,7 @@ const (
 	ofNothing    = "an aggregate of no rows, which doesn't show its table"
 	unclearEnd   = "a transaction whose end isn't known"
 	namesUnsure  = "names of which it isn't certain what they refer to"
+	justChanged  = "an operator, a schema or a role has just been made, changed or dropped"
 )
 
 const (
@@ -74,6 +75,8 @@ func (s *Session) asksBy(st *statement, with condition.Arguments) *asking {
 	switch it.most = most; {
 	case err != nil:
 		it.why = err.Error()
+	case !s.isUpToDate():
+		it.why = justChanged
 	case p.Skips(st.text, st.tokens, with):
 		it.why = skipsRows
 	case p.NamesWithin() && !s.certainNames():

@@ -3,6 +3,7 @@ package session
 import (
 	"context"
 	"strings"
+	"sync/atomic"
 	"testing"
 	"time"
 
@@ -78,5 +79,64 @@ func TestNamesByMembership(t *testing.T) {
 	c.query("SET search_path = lent, pg_catalog")
 	if path := show(c.query(catalog.PathSQL)); !strings.Contains(path, `[\"\",\"lent\"`) {
 		t.Errorf("a superuser's path is certain: %s", path)
+	}
+}
+
+// TestNamesJustChanged: what names mean has changed, as the audit has seen. What is asked doesn't count before the catalog shows
+// that, and the connection was asked once more what its names refer to.
+func TestNamesJustChanged(t *testing.T) {
+	needServer(t)
+	alone(t)
+	sql(t, fill)
+	its, err := definitions.Open(context.Background(), config(), time.Hour, func(string) {}, catalog.WithColumns)
+	if err != nil {
+		t.Fatal(err)
+	}
+	var made, seen atomic.Uint64
+	p := through(t, "postgres", func(o *Options) {
+		o.Plans, o.Generation, o.Shared = its, its.Generation, NewShared()
+		o.Made = func() (uint64, uint64) { return made.Load(), seen.Load() }
+	})
+	texts := []string{"SELECT v FROM t WHERE v < 20", "UPDATE t SET w = 'z' WHERE v = -7", "SELECT v FROM t WHERE id = -5"}
+	p.warm(texts...)
+	ask := func() (followed, absent, left int) {
+		p.settle()
+		p.sink.take()
+		p.query("BEGIN ISOLATION LEVEL REPEATABLE READ")
+		for _, text := range texts {
+			p.query(text)
+		}
+		p.query("COMMIT")
+		for _, told := range p.sink.take() {
+			absent += len(told.Absent)
+			for _, one := range told.Asks {
+				if one.Why == "" {
+					followed++
+				} else if one.Why == justChanged {
+					left++
+				}
+			}
+		}
+		return followed, absent, left
+	}
+	for _, x := range []struct {
+		made, seen uint64
+		follows    bool
+	}{{0, 0, true}, {1, 0, false}, {1, 1, true}, {3, 2, false}, {4, 2, false}, {4, 4, true}} {
+		made.Store(x.made)
+		seen.Store(x.seen)
+		followed, absent, left := ask()
+		if x.follows { // once the connection was asked
+			for end := time.Now().Add(time.Minute); followed < 2 && time.Now().Before(end); {
+				followed, absent, left = ask()
+			}
+		}
+		for i := 0; i < 2; i++ {
+			if x.follows != (followed == 2 && absent == 1) || !x.follows && (followed+absent > 0 || left != 2) {
+				t.Errorf("of %d changes %d are in the catalog: followed %d, absent %d, left out %d", x.made, x.seen, followed, absent, left)
+			}
+			time.Sleep(resettlePause) // it is asked again meanwhile
+			followed, absent, left = ask()
+		}
 	}
 }

@@ -52,6 +52,9 @@ type Options struct {
 	Log        func(string)  // for the people who run the proxy
 	Bound      time.Duration // how long a meeting holds a client's messages
 	Shared     *Shared       // nil: each connection tries its plans itself
+	// Made returns how often the audit has seen that what names mean may have changed, and how many of these changes are in
+	// the catalog by which statements are planned from then on. nil: there are none.
+	Made func() (made, seen uint64)
 	// Mark is the number of the lock by which the audited server is known, 0 while there is none. It changes with each
 	// audit. nil: every server is the audited one.
 	Mark func() int64
@@ -431,6 +434,9 @@ func (s *Session) answers(batch []byte) (out []byte, again, rest bool) {
 // catchUp takes notice of another catalog and another audit.
 func (s *Session) catchUp() {
 	s.follow()
+	if s.options.Made != nil {
+		_, s.trust.planned = s.options.Made() // before the generation
+	}
 	if g := s.options.Generation(); g != s.trust.catalog {
 		s.trust.catalog = g
 		s.trust.planAnew()

@@ -15,6 +15,7 @@ type trial struct {
 	began              time.Time
 	generation, doubts uint64
 	others             uint64 // what trust counted
+	made               uint64 // what the audit had seen of changes of what names mean
 	back               plan.Parts
 	uses               []*use
 	signature          []byte
@@ -39,6 +40,9 @@ func (s *Session) try(out []byte) []byte {
 	t := &s.trust
 	w := &trial{began: clock(), generation: t.generation, doubts: t.doubts, others: t.others, back: t.back, levels: t.levels,
 		mark: t.mark, done: make(chan struct{})}
+	if s.options.Made != nil {
+		w.made, _ = s.options.Made()
+	}
 	t.resettle, t.compared = false, w.began
 	s.trial = w
 	if s.status == 'T' {
@@ -279,7 +283,7 @@ func (s *Session) compares(w *trial) {
 		t.moves(w.signature, w.path, isPrivate)
 		t.asks = false
 	}
-	t.signature, t.doubt, t.settled = w.signature, false, w.others
+	t.signature, t.doubt, t.settled, t.made = w.signature, false, w.others, w.made
 	b.isPrivate, b.local = isPrivate, w.inBlock && (w.local || w.doubted || !isSame)
 	if w.inBlock {
 		return

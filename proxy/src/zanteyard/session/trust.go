@@ -16,10 +16,13 @@ type trust struct {
 	era         uint64 // what the proxy prepared in an older one may be something else by now
 	others      uint64 // counts what may have run any statement: what anybody prepared before may be something else
 	settled     uint64 // others, when the signature was last compared: no temporary object can have been made since
-	resettle    bool   // something wasn't followed since others have run: the signature is worth comparing again
-	compared    time.Time
-	foreign     bool // others' statements may have run in the transaction, so that deferred triggers may, too
-	begun       bool // it is a block, which a Sync doesn't end
+	// Of the changes of what names mean that the audit has seen, so many are in the plans, and so many were there when the
+	// signature was last asked for.
+	planned, made uint64
+	resettle      bool // something wasn't followed since: the signature is worth comparing again
+	compared      time.Time
+	foreign       bool // others' statements may have run in the transaction, so that deferred triggers may, too
+	begun         bool // it is a block, which a Sync doesn't end
 	// declared are the cursors of the transaction, as it was sent, that don't run what others have made.
 	declared map[string]bool
 	catalog  uint64 // the catalog's generation, as last looked at
@@ -161,6 +164,17 @@ func (t *trust) work() bool {
 
 // resettlePause is the shortest time between two comparisons of the signature that are made only since others have run.
 const resettlePause = 100 * time.Millisecond
+
+// isUpToDate reports whether names mean what the plans and the signature take them for, unless that has changed in a way that
+// the audit hasn't seen yet.
+func (s *Session) isUpToDate() bool {
+	t, made := &s.trust, uint64(0)
+	if s.options.Made != nil {
+		made, _ = s.options.Made()
+	}
+	t.resettle = t.resettle || t.made != made
+	return t.made == made && t.planned >= made
+}
 
 // hasTemporary reports whether the connection may have temporary objects. What others have made may have made one since
 // the signature was last compared, and drop it before the next time.

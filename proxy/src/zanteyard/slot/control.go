@@ -37,6 +37,7 @@ type Control struct {
 	mayMean   bool
 	reread    bool
 	analysed  string  // what analysedSQL returned last
+	roles     string  // and the number of all roles and their names
 	settings  float64 // when the settings were read last, in seconds; 0 if that isn't known
 }
 
@@ -189,13 +190,17 @@ func (c *Control) place(ctx context.Context) (join.Place, error) {
 		if err != nil {
 			return join.Place{}, err
 		}
-		c.mayMean = c.mayMean || analysed != c.analysed
-		c.analysed = analysed
-		if len(rows) != 1 || len(rows[0]) < 4 {
+		if len(rows) != 1 || len(rows[0]) < 5 {
 			return join.Place{}, errForm
 		}
-		remade := len(rows[0]) > 4 && c.tables.remade(rows[0][4])
+		mayMean := analysed != c.analysed || rows[0][4] != c.roles
+		c.mayMean = c.mayMean || mayMean
+		c.analysed, c.roles = analysed, rows[0][4]
+		remade := len(rows[0]) > 5 && c.tables.remade(rows[0][5])
 		c.remade = c.remade || remade
+		if (mayMean || remade) && c.options.Remade != nil {
+			c.options.Remade()
+		}
 		at, ok := parsePlace(rows[0][0])
 		if !ok {
 			return join.Place{}, errForm
@@ -242,9 +247,12 @@ const versionOfOne = `pg_catalog.concat_ws(' ', c.oid, pg_catalog.concat_ws(':',
 const stampOfOne = "pg_catalog.concat_ws(' ', c.oid, n.nspname, c.relname, c.relispartition, c.relreplident, i.indisreplident, " + catalog.IdentitySQL + ")"
 
 const (
-	placeBegin = "SELECT pg_catalog.pg_current_wal_insert_lsn(), s.stamps, pg_catalog.pg_current_snapshot(), s.versions"
-	placeFrom  = " FROM (SELECT pg_catalog.string_agg("
-	placeEnd   = ", '; ' ORDER BY c.oid) AS stamps, pg_catalog.string_agg(" + versionOfOne + `, '; ' ORDER BY c.oid) AS versions
+	placeBegin = "SELECT pg_catalog.pg_current_wal_insert_lsn(), s.stamps, pg_catalog.pg_current_snapshot(), s.versions, " + rolesSQL
+	// rolesSQL changes with a role's name: "$user" in a search path is a schema of that name.
+	rolesSQL = `(SELECT pg_catalog.concat_ws(',', pg_catalog.count(*), pg_catalog.sum(pg_catalog.hashtextextended(r.rolname::pg_catalog.text,
+    r.oid::pg_catalog.int8))) FROM pg_catalog.pg_roles r)`
+	placeFrom = " FROM (SELECT pg_catalog.string_agg("
+	placeEnd  = ", '; ' ORDER BY c.oid) AS stamps, pg_catalog.string_agg(" + versionOfOne + `, '; ' ORDER BY c.oid) AS versions
   FROM pg_catalog.pg_class c JOIN pg_catalog.pg_namespace n ON n.oid = c.relnamespace
   LEFT JOIN pg_catalog.pg_index i ON i.indrelid = c.oid AND i.indisprimary
   WHERE c.oid = ANY($1::pg_catalog.oid[])) s`

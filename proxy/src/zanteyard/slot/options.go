@@ -41,6 +41,9 @@ type Options struct {
 	// Marked is called with the number of the mark (package own) that the slot's connection holds, before it waits for
 	// anything. It may be nil.
 	Marked func(mark int64)
+	// Remade is called when operators, casts, schemas or roles were seen to have been made, changed or dropped, before a Place
+	// says so. It may be nil.
+	Remade func()
 	// Canonical returns the canonical text of a key column's value, as the slot writes it.
 	Canonical func(typeOID uint32, text string) (string, bool)
 	// Show converts a canonical text to one for people.

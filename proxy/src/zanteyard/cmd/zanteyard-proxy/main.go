@@ -413,6 +413,7 @@ func look(ctx context.Context, f flags, config *pgconn.Config, options *session.
 	options.Mark = all.mark.Load
 	d.Follow(options.Mark)
 	all.config.Slot.Marked = all.mark.Store
+	all.config.Slot.Remade, options.Made = d.Remade, d.Made
 	if f.conditions {
 		all.config.Slot.Values, all.config.Join.Shapes = d.FollowsTable, f.redact
 	}
