@@ -93,11 +93,13 @@ type queue struct {
 	list   []expectation
 	head   int
 	pieces int // of the statements in it
-	// changes counts what may be undone of names, and binds the Binds of the client's portals that aren't answered.
-	changes, binds map[change]int
-	declares       int       // how many of its statements declare a cursor with a rewritten query
-	sent           time.Time // when the client's messages that are added now were sent
-	era            uint64
+	// changes counts what may be undone of names, and binds the Binds of the client's portals that aren't answered. Most have no
+	// name, which have counts of their own.
+	changes, binds               map[change]int
+	statements, portals, unnamed int       // changes of the unnamed statement and portal, and Binds of that portal
+	declares                     int       // how many of its statements declare a cursor with a rewritten query
+	sent                         time.Time // when the client's messages that are added now were sent
+	era                          uint64
 	// levels and doubts are what trust counts now.
 	levels, doubts *uint64
 }
@@ -189,6 +191,14 @@ func (q *queue) count(e *expectation, by int) {
 	if e.undo != undoStatement && e.undo != undoPortal {
 		return
 	}
+	if e.name == "" {
+		if e.undo == undoStatement {
+			q.statements += by
+		} else if q.portals += by; e.message == 'B' {
+			q.unnamed += by
+		}
+		return
+	}
 	if q.changes == nil {
 		q.changes, q.binds = map[change]int{}, map[change]int{}
 	}
@@ -206,11 +216,27 @@ func add(to map[change]int, of change, by int) {
 }
 
 // binding reports whether a Bind of the client's portal of this name isn't answered.
-func (q *queue) binding(name string) bool { return q.binds[change{undoPortal, name}] > 0 }
+func (q *queue) binding(name string) bool {
+	if name == "" {
+		return q.unnamed > 0
+	}
+	return q.binds[change{undoPortal, name}] > 0
+}
+
+// changing reports whether an expectation changes what the name stands for.
+func (q *queue) changing(of change) bool {
+	switch {
+	case of.name != "":
+		return q.changes[of] > 0
+	case of.undo == undoStatement:
+		return q.statements > 0
+	}
+	return q.portals > 0
+}
 
 // nextChange returns the oldest expectation that changes what the name stands for, or nil.
 func (q *queue) nextChange(of change) *expectation {
-	if q.changes[of] == 0 {
+	if !q.changing(of) {
 		return nil
 	}
 	for i := q.head; i < len(q.list); i++ {
