@@ -408,6 +408,8 @@ def everything(asked: Any, folder: str) -> Iterator[Any]:
     server.initialize()
     with open(os.path.join(server.data, "postgresql.conf"), "a", encoding="ascii") as settings:
         settings.write(f"max_connections = {asked.clients * len(asked.work) + 60}\n")
+        # A serializable transaction that is stopped for seconds keeps what all others have read.
+        settings.write("max_pred_locks_per_transaction = 1024\n")
     server.start()
     with open(os.path.join(folder, "scratch.sql"), "w", encoding="ascii") as script:
         script.write(SCRATCH)
