@@ -46,6 +46,7 @@ const (
 // How often to look, and to load.
 const (
 	leastPause = time.Second // between two loads, however many changes are reported; less if the regular time is less
+	glances    = 20          // a look at once takes one in so many of a processor's time
 	part       = 125         // the regular looks take one in so many of a processor's time
 	compared   = 8           // the shortest of so many looks is what one takes: others have waited
 )
@@ -64,7 +65,8 @@ type Definitions struct {
 	lock   sync.Mutex
 	loaded *catalog.Catalog // without a search path
 	path   string           // the application's search path; "" before the first connection has reported one
-	wake   chan struct{}
+	wake   chan struct{}    // something may change soon
+	hurry  chan struct{}    // something has changed
 	every  time.Duration
 
 	marked func() int64 // the audited server's mark (package own), 0 while there is none; nil: any server
@@ -75,6 +77,8 @@ type Definitions struct {
 	took   []time.Duration // by the last looks for a change; for Run alone, as the next two
 	whole  time.Duration   // by the last look, and loading the catalog if it did
 	looked time.Time       // when it ended
+	read   time.Time       // when the catalog was loaded last
+	hasty  bool            // the next look is soon after the last one: if anything has changed, another one loads it
 	loads  atomic.Uint64   // counts how often the catalog was loaded
 	made   atomic.Uint64   // counts the calls of Remade
 	seen   atomic.Uint64   // what made was before the last look that has succeeded
@@ -82,7 +86,7 @@ type Definitions struct {
 
 // New makes definitions that aren't loaded yet: Run loads them.
 func New(config *pgconn.Config, every time.Duration, log func(string)) *Definitions {
-	return &Definitions{config: config, log: log, wake: make(chan struct{}, 1), every: every}
+	return &Definitions{config: config, log: log, wake: make(chan struct{}, 1), hurry: make(chan struct{}, 1), every: every}
 }
 
 // Only hides all tables that the filter excludes. Call it before Run.
@@ -145,6 +149,10 @@ func (d *Definitions) renew(ctx context.Context, conn *pgconn.PgConn) error {
 		d.took = d.took[1:]
 	}
 	if err == nil && mark != d.mark {
+		if d.hasty && began.Sub(d.read) < leastPause {
+			d.Changed()
+			return nil
+		}
 		if err = d.load(ctx, conn); err == nil {
 			d.mark = mark
 		}
@@ -224,7 +232,10 @@ func (d *Definitions) Changed() {
 // Remade reports that somebody has made, changed or dropped what names may mean. It doesn't wait.
 func (d *Definitions) Remade() {
 	d.made.Add(1)
-	d.Changed()
+	select {
+	case d.hurry <- struct{}{}:
+	default:
+	}
 }
 
 // Made returns how often that was reported, and of how many such reports the catalog shows what they were about. Who asks for
@@ -261,6 +272,7 @@ func (d *Definitions) Run(ctx context.Context, loaded func()) {
 // pause waits until it is time for the next look: after the regular time, or sooner if a change was reported. A server
 // with very many tables takes long to look, so it is asked less often. It returns false once ctx has ended.
 func (d *Definitions) pause(ctx context.Context) bool {
+	d.hasty = false
 	regular, urgent := pauses(d.every, shortest(d.took), d.whole)
 	timer := time.NewTimer(regular)
 	defer timer.Stop()
@@ -270,6 +282,10 @@ func (d *Definitions) pause(ctx context.Context) bool {
 	case <-timer.C:
 		return true
 	case <-d.wake: // a session is about to change something: the change is visible a little later
+	case <-d.hurry: // by the slot it is visible
+		if hasty := glances * shortest(d.took); hasty < urgent {
+			d.hasty, urgent = true, hasty
+		}
 	}
 	soon := time.NewTimer(time.Until(d.looked.Add(urgent)))
 	defer soon.Stop()
@@ -344,6 +360,7 @@ func (d *Definitions) load(ctx context.Context, conn *pgconn.PgConn) error {
 	d.loads.Add(1)
 	d.lock.Lock()
 	defer d.lock.Unlock()
+	d.read = time.Now()
 	d.loaded = c
 	d.use()
 	return nil

@@ -160,3 +160,51 @@ func TestMade(t *testing.T) {
 		t.Errorf("after a look that failed %d were made, and %d seen", made, seen)
 	}
 }
+
+// TestLooksAtOnce: what the audit has seen being made is looked at at once. If anything has changed, it is loaded as seldom as always.
+func TestLooksAtOnce(t *testing.T) {
+	d, conn := open(t, time.Hour)
+	ctx, cancel := context.WithCancel(context.Background())
+	defer cancel()
+	loaded := make(chan struct{})
+	ended := make(chan struct{})
+	go func() {
+		d.Run(ctx, func() { close(loaded) })
+		close(ended)
+	}()
+	<-loaded
+	seen := func(what string) time.Duration {
+		t.Helper()
+		began := time.Now()
+		d.Remade()
+		for made, seen := d.Made(); seen < made; made, seen = d.Made() {
+			if time.Since(began) > time.Minute {
+				t.Fatalf("%s isn't looked at", what)
+			}
+			time.Sleep(time.Millisecond)
+		}
+		return time.Since(began)
+	}
+	for try := 0; seen("nothing") > leastPause/2; try++ { // a busy machine may take longer once
+		if try == 20 {
+			t.Fatal("nothing is looked at at once")
+		}
+	}
+	for i := 0; i < 3; i++ {
+		sql(t, conn, fmt.Sprint("CREATE SCHEMA made", i))
+		before, at := d.loads.Load(), d.loadedAt()
+		seen("a schema")
+		if d.loads.Load() != before+1 || d.loadedAt().Sub(at) < leastPause {
+			t.Errorf("loaded %d times, after %v", d.loads.Load()-before, d.loadedAt().Sub(at))
+		}
+	}
+	cancel()
+	<-ended
+}
+
+// loadedAt is when the catalog was loaded last.
+func (d *Definitions) loadedAt() time.Time {
+	d.lock.Lock()
+	defer d.lock.Unlock()
+	return d.read
+}

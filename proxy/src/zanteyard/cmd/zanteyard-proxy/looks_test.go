@@ -82,13 +82,11 @@ func TestNamesBetweenLooks(t *testing.T) {
 			sql(t, writer, "UPDATE x SET v = 2 WHERE id = 1")
 			sql(t, writer, "UPDATE "+x.table+" SET status = 'free' WHERE id = 1")
 			sql(t, writer, "COMMIT")
-			h.settle()
 			if got := sql(t, reader, "SELECT v FROM x WHERE id = 1"); got != "2" {
 				t.Errorf("it read %s", got)
 			}
 			is := sql(t, reader, "SELECT 'item'::regclass::oid")
 			sql(t, reader, "COMMIT")
-			h.settle()
 			h.stop()
 			same := x.change == "SELECT 1"
 			if (is == was) != (same || x.operator) {
