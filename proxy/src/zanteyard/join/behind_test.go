@@ -207,7 +207,7 @@ func TestPace(t *testing.T) {
 		{"some are left out", []round{{10_000, second, 7_071, 1}, {10_000, second, 4_999, 1}, {10_000, second, 3_535, 1}, {10_000, second, 3_535, 9},
 			{4_000, second / 8, 3_999, 0}, {4_000, second / 20, 7_071, 0}}},
 	} {
-		b := newBench(t, Options{Sessions: 256, Limit: 131_072})
+		b, known := newBench(t, Options{Sessions: 256, Limit: 131_072}), false
 		for _, its := range one.rounds {
 			b.core.remain = its.n
 			b.core.roundAsked(1)
@@ -218,6 +218,9 @@ func TestPace(t *testing.T) {
 				t.Errorf("%s: after %d in %v so many fit: %d, wanted %d", one.name, its.n, its.took, b.core.fit, its.fit)
 			}
 			most := least(greatest(3*its.fit, 2048), 131_072)
+			if known = known || its.fit != firstFit; !known {
+				most = 131_072
+			}
 			if room := b.core.room(); room != most-512-its.n {
 				t.Errorf("%s: there is room for %d", one.name, room)
 			}

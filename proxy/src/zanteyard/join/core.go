@@ -107,8 +107,9 @@ func newCore(opt Options, tables Tables, base uint32, out func([]byte), now time
 		counts:      newCounts(),
 		questions:   newConditions(opt.Conditions),
 		good:        goodRound,
+		fit:         least(firstFit, opt.Limit),
+		most:        opt.Limit, // as long as no round was answered
 	}
-	c.fits(firstFit)
 	for i := 0; i < opt.First; i++ {
 		c.sessions = append(c.sessions, &session{index: i, fenced: true})
 	}
