@@ -25,8 +25,8 @@ const (
 	goodRound  = time.Second // so long a round should take
 	leastRound = time.Second / 8
 	firstFit   = 1 << 13 // so many may come between two meetings before the first round
-	leastFit   = 1 << 10
-	untilFull  = 3 // so many times what should come between two meetings may remain
+	leastFit   = 1 << 12 // a round of fewer is fast on a machine with a processor to spare
+	untilFull  = 3       // so many times what should come between two meetings may remain
 )
 
 // pace takes over that a round of so many took so long: by that, as if the time grew with the square of the number, as many
@@ -120,7 +120,7 @@ func (j *Joiner) lookBehind() {
 		case c.isLate():
 			j.warn(fmt.Sprintf("the auditor fell behind: it hasn't answered for %g s; transactions are left out until it has",
 				c.opt.Behind.Seconds()))
-		case c.most < c.opt.Limit/2:
+		case c.most < c.opt.Limit:
 			j.warn(fmt.Sprintf("the auditor fell behind: it is given %d transactions at a time, so that rounds don't take long; others are left out",
 				c.most))
 		default:

@@ -202,10 +202,10 @@ func TestPace(t *testing.T) {
 		rounds []round
 	}{
 		{"fast ones", []round{{100, second / 1000, 8_192, 0}, {8_000, second / 5, 17_888, 0}, {18_000, second / 10, 56_920, 0}, {60_000, second / 100, 131_072, 0}}},
-		{"slow ones", []round{{10_000, second, 9_999, 0}, {10_000, 4 * second, 4_999, 0}, {5_000, 400 * second, 1_249, 0}, {1_249, 100 * second, 1_024, 0}}},
-		{"slow for another reason", []round{{1_023, 10 * second, 8_192, 0}, {10_000, 100 * second, 2_048, 0}, {1_023, second / 100, 8_192, 0}}},
-		{"some are left out", []round{{10_000, second, 7_071, 1}, {10_000, second, 4_999, 1}, {10_000, second, 3_535, 1}, {10_000, second, 3_535, 9},
-			{4_000, second / 8, 3_999, 0}, {4_000, second / 20, 7_071, 0}}},
+		{"slow ones", []round{{10_000, second, 9_999, 0}, {10_000, 4 * second, 4_999, 0}, {5_000, 400 * second, 4_096, 0}, {4_096, 100 * second, 4_096, 0}}},
+		{"slow for another reason", []round{{4_095, 10 * second, 8_192, 0}, {10_000, 100 * second, 4_096, 0}, {1_023, second / 100, 10_229, 0}}},
+		{"some are left out", []round{{20_000, second, 14_142, 1}, {20_000, second, 9_999, 1}, {20_000, second, 7_071, 1}, {20_000, second, 7_071, 9},
+			{8_000, second / 8, 7_999, 0}, {8_000, second / 20, 14_142, 0}}},
 	} {
 		b, known := newBench(t, Options{Sessions: 256, Limit: 131_072}), false
 		for _, its := range one.rounds {
@@ -239,7 +239,7 @@ func TestPace(t *testing.T) {
 	for _, x := range []struct {
 		passed time.Duration
 		most   int
-	}{{second, 13_192}, {2 * second, 7_500}, {4 * second, 6_250}, {100 * second, 6_024}} {
+	}{{second, 13_192}, {2 * second, 9_096}, {100 * second, 9_096}} {
 		if b.core.now = b.now.Add(x.passed); b.core.mostNow() != x.most {
 			t.Errorf("after %v %d may remain, wanted %d", x.passed, b.core.mostNow(), x.most)
 		}
@@ -248,7 +248,7 @@ func TestPace(t *testing.T) {
 
 // A slow round leaves less room, which is told, and everything that there is room for is still offered.
 func TestLessRoomAfterASlowRound(t *testing.T) {
-	b := newBench(t, Options{Sessions: 1, Limit: 8192})
+	b := newBench(t, Options{Sessions: 1, Limit: 16_384})
 	b.connect(1)
 	var told []Event
 	j := &Joiner{core: b.core, output: kept{&told}, unanswered: 1}
@@ -268,18 +268,16 @@ func TestLessRoomAfterASlowRound(t *testing.T) {
 		b.core.cut([]uint64{b.core.sessions[0].written})
 		b.model.sessions[0].mark = int(b.core.sessions[0].written)
 	}
-	tell(2000)
+	tell(5000)
 	round(4 * time.Second)
-	tell(2000)
-	round(4 * time.Second)
-	if tell(3*1024 - 2); b.core.counts.folded[noRoom] != 0 || len(told) > 0 {
+	if tell(3*4096 - 2); b.core.counts.folded[noRoom] != 0 || len(told) > 0 {
 		t.Errorf("%d are left out, told %v", b.core.counts.folded[noRoom], told)
 	}
 	tell(100)
 	if n := b.core.counts.folded[noRoom]; n != 100 {
 		t.Errorf("%d are left out", n)
 	}
-	if warning, is := told[0].(Warning); len(told) != 1 || !is || !strings.Contains(warning.Text, "it is given 3072 transactions at a time") {
+	if warning, is := told[0].(Warning); len(told) != 1 || !is || !strings.Contains(warning.Text, "it is given 12288 transactions at a time") {
 		t.Errorf("told: %+v", told)
 	}
 }
