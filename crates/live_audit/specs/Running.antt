@@ -24,10 +24,6 @@ reports_in [] = []
 reports_in (Report report ∷ more) = (report.round, report.kind) ∷ reports_in more
 reports_in (other ∷ more) = reports_in more
 
--- if the entry is a report, it is the last that was published
-abbrev pub IsPublished : List (ℕ × Kind) → Entry → Type 0
-IsPublished published entry = (before : List (ℕ × Kind)) × (published ≡ before ++ reports_in (entry ∷ []))
-
 -- an end of this collector was taken
 abbrev pub HasEnded : ℕ → List Parcel → Type 0
 HasEnded collector taken = (parcel : Parcel) × Contains taken parcel × (parcel.collector ≡ collector) × (parcel.item ≡ item.End)

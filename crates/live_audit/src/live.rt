@@ -4,7 +4,7 @@ ghost use Rattle.order_check.specs.Effort.{IsEffort};
 ghost use Rattle.polygraph.specs.Solving.{IsLawful};
 ghost use Rattle.report_queue.specs.Reports.{IsBefore};
 ghost use Rattle.live_audit.specs.Moments.{accepted_counts, IsLook, IsRoundMade, IsTimed, IsTurn, Turns};
-ghost use Rattle.live_audit.specs.Running.{AreEnded, HasEnded, HasOutcome, HasPublished, IsBetweenRounds, IsRound, CanBeTold, IsPublished, IsSaid, told_in, reports_in};
+ghost use Rattle.live_audit.specs.Running.{AreEnded, HasEnded, HasOutcome, HasPublished, IsBetweenRounds, IsRound, CanBeTold, IsSaid, told_in, reports_in};
 ghost use Rattle.live_audit.specs.Sides.{FromFresh, HasMovedBy, HasSamePlaces, HasTakenBy, IsLastOf, IsLiveBy, Wherever};
 ghost use Rattle.live_audit.specs.Truth.{IsTrueEntry, accepted_history};
 
@@ -68,15 +68,6 @@ fn refusal_in(entry: &Entry) -> Result<(), Refusal>
     }
 }
 
-/// Sends what a round came to. A report was published before, so whoever takes it finds none before it as the latest.
-fn send_published<R: Wait>(rt: &R, side: &mut AuditorSide, outcome: Entry)
-    requires { IsPublished side.old.seat.published outcome }
-    ensures sent { side.new.sender.sent ≡ side.old.sender.sent ++ outcome ∷ [] }
-    ensures same { (side.new.pass ≡ side.old.pass) × (side.new.sender.ring ≡ side.old.sender.ring) × (side.new.seat ≡ side.old.seat) }
-{
-    send(rt, &mut side.sender, outcome);
-}
-
 /// Publishes and sends what a round came to.
 fn tell<R: Wait>(
     rt: &R,
@@ -96,7 +87,7 @@ fn tell<R: Wait>(
         latest.publish(&mut side.seat, round, kind);
     }
     let said = refusal_in(&outcome);
-    send_published(rt, side, outcome);
+    send(rt, &mut side.sender, outcome);
     if let Some(entry) = more {
         send(rt, &mut side.sender, entry);
     }
