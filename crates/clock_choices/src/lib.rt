@@ -26,7 +26,6 @@ mod saturating;
 mod settling;
 mod sharing;
 mod spans;
-mod spread;
 mod steps;
 mod whole;
 mod writers;

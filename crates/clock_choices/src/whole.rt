@@ -14,7 +14,6 @@ use crate::due::Due;
 use crate::indexing::{Index, remaining_ids_of};
 use crate::linking::link_txns;
 use crate::saturating::saturate;
-use crate::spread::spread_of;
 use crate::steps::Forced;
 use order_check::Parts;
 use session_clocks::Graph;
@@ -65,7 +64,6 @@ pub(crate) fn relation_of(
     let ids = remaining_ids_of(alloc, parts)?;
     let mut graph = graph_by_sources(alloc, parts, index, &ids)?;
     let mut steps = Vec::new(alloc);
-    let spread = spread_of(alloc, graph.gone(), graph.received(), &ids)?;
-    bring_all(alloc, parts, index, &mut graph, &mut steps, &spread)?;
+    bring_all(alloc, parts, index, &mut graph, &mut steps, &ids)?;
     Ok((graph, steps))
 }
