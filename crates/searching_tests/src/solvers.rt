@@ -16,7 +16,6 @@ pub const TURNS: u64 = 10_000_000;
 #[derive(Drop)]
 pub struct Held {
     searches: AtomicU64,
-    workers: AtomicU64,
     goes_on: AtomicBool,
     was_stopped: AtomicBool,
     gave_up: AtomicBool,
@@ -27,7 +26,6 @@ impl Held {
     pub fn new(is_free: bool) -> Held {
         Held {
             searches: AtomicU64::new(0),
-            workers: AtomicU64::new(0),
             goes_on: AtomicBool::new(is_free),
             was_stopped: AtomicBool::new(false),
             gave_up: AtomicBool::new(false),
@@ -37,11 +35,6 @@ impl Held {
     /// How many searches were begun.
     pub fn searches(&self) -> u64 {
         self.searches.load(Ordering::SeqCst)
-    }
-
-    /// For how many workers these have asked together.
-    pub fn workers(&self) -> u64 {
-        self.workers.load(Ordering::SeqCst)
     }
 
     pub fn was_stopped(&self) -> bool {
@@ -82,8 +75,7 @@ impl Held {
         self.gave_up.store(true, Ordering::SeqCst);
     }
 
-    fn begin(&self, problem: &Problem, workers: u64) {
-        self.workers.fetch_add(workers, Ordering::SeqCst);
+    fn begin(&self, problem: &Problem) {
         if self.searches.fetch_add(1, Ordering::SeqCst) == 0 {
             self.hold(problem);
         }
@@ -104,7 +96,7 @@ impl Solver for Held {
         requires effort { IsEffort budget depth workers }
         ensures { IsLawful problem.now.known.parts budget depth result }
     {
-        self.begin(problem, workers);
+        self.begin(problem);
         Single.solve(alloc, problem, budget, depth, workers)
     }
 }
@@ -122,7 +114,7 @@ impl PlainSolver for Held {
         ensures lawful { IsLawful problem.now.known.parts budget depth result }
         ensures picked { IsPicked problem.now budget depth result }
     {
-        self.begin(problem, workers);
+        self.begin(problem);
         Single.search(alloc, problem, budget, depth, workers)
     }
 }

@@ -3,7 +3,6 @@ use crate::solvers::Held;
 use byte_lines::{Failure, MemorySink, MemorySource, Pace};
 use cobra::{Means, Solvers, serve};
 use std::alloc::Global;
-use std::process::Abort;
 use std::sync::Wait;
 use std::test::*;
 use std::thread;
@@ -173,84 +172,43 @@ fn a_search_is_collected_without_waiting(rt: HostRuntime) -> Result<(), Fail> {
     Ok(())
 }
 
-/// Lines; how many searches by the plain and by the guided solver were begun once all are answered, and for how many workers these have asked together.
-type Count = (&'static str, u64, u64, u64);
-
-const COUNTED: [Count; 10] = [
-    ("[\"open\",2,8]\n", 0, 0, 0),
-    ("[\"offer\",0,0,[[[],[5]]]]\n", 0, 0, 0),
-    ("[\"round\",32,0,1]\n", 1, 0, 1),
+/// Lines, and how many searches by the plain and by the guided solver were begun once all are answered.
+const COUNTED: [(&str, u64, u64); 10] = [
+    ("[\"open\",2,8]\n", 0, 0),
+    ("[\"offer\",0,0,[[[],[5]]]]\n", 0, 0),
+    ("[\"round\",32,0,1]\n", 1, 0),
     // Nothing has come since.
-    ("[\"round\",32,0,1]\n", 1, 0, 1),
+    ("[\"round\",32,0,1]\n", 1, 0),
     // Another search, or another budget.
-    ("[\"round\",32,0,2,\"guided\"]\n", 1, 1, 3),
-    ("[\"round\",33,0,1]\n", 2, 1, 4),
-    ("[\"round\",33,0,1]\n", 2, 1, 4),
+    ("[\"round\",32,0,1,\"guided\"]\n", 1, 1),
+    ("[\"round\",33,0,1]\n", 2, 1),
+    ("[\"round\",33,0,1]\n", 2, 1),
     // Something has.
-    ("[\"offer\",0,1,[[[],[5]]]]\n", 2, 1, 4),
-    ("[\"round\",33,0,3]\n", 3, 1, 7),
-    ("[\"truncate\"]\n", 3, 1, 7),
+    ("[\"offer\",0,1,[[[],[5]]]]\n", 2, 1),
+    ("[\"round\",33,0,1]\n", 3, 1),
+    ("[\"truncate\"]\n", 3, 1),
 ];
 
-/// A search beside the lines, counted once it is collected, and one in place.
-const COUNTED_BESIDE: [Count; 7] = [
-    ("[\"open\",2,8]\n", 0, 0, 0),
-    ("[\"offer\",0,0,[[[],[5]]]]\n", 0, 0, 0),
-    ("[\"begin\"]\n", 0, 0, 0),
-    ("[\"search\",34,0,5]\n", 1, 0, 5),
-    ("[\"collect\",\"wait\"]\n", 1, 0, 5),
-    ("[\"begin\"]\n", 1, 0, 5),
-    ("[\"finish\",35,0,7]\n", 2, 0, 12),
-];
-
-/// A script that asks for strict serializability.
-const COUNTED_STRICT: [Count; 4] = [
-    ("[\"open\",2,8,2,\"strict\"]\n", 0, 0, 0),
-    ("[\"offer\",0,0,[[[],[5]]],[1],[2]]\n", 0, 0, 0),
-    ("[\"round\",32,0,2]\n", 1, 0, 2),
-    ("[\"round\",32,0,3,\"guided\"]\n", 1, 1, 5),
-];
-
-/// Stops unless so many searches are begun by these lines.
-fn are_counted<R: Threads + Wait + Abort>(
-    rt: &R,
-    alloc: Global,
-    lines: &[Count],
-) -> Result<(), NoMemory> {
-    let solvers = solvers(true);
-    let mut turns = Vec::new(alloc);
-    let mut wanted = (0, 0, 0);
-    for (line, plain, guided, workers) in lines {
-        turns.push(Turn::Line(*line))?;
-        wanted = (*plain, *guided, *workers);
-    }
-    let served = serve_turns(rt, alloc, &turns, 0, &solvers);
-    let workers = solvers
-        .plain
-        .workers()
-        .wrapping_add(solvers.guided.workers());
-    let seen = (solvers.plain.searches(), solvers.guided.searches(), workers);
-    assert_eq!(rt; seen, wanted, "after {} lines", lines.len());
-    assert_eq!(rt;
-        (served.end, served.is_wrong),
-        (Ok(()), false),
-        "after {} lines",
-        lines.len()
-    );
-    Ok(())
-}
-
-/// A round is searched by the solver of the search that it asks for, with as many workers, once, and not at all where nothing has come since that
-/// search found an order.
+/// A round is searched by the solver of the search that it asks for, once, and not at all where nothing has come since that search found an order.
 #[test]
 fn nothing_is_searched_twice(rt: HostRuntime) -> Result<(), Fail> {
     for count in 1..COUNTED.len() + 1 {
-        are_counted(&rt, rt.alloc(), &COUNTED[..count])?;
+        let solvers = solvers(true);
+        let mut turns = Vec::new(rt.alloc());
+        let mut wanted = (0, 0);
+        for (line, plain, guided) in COUNTED.iter().take(count) {
+            turns.push(Turn::Line(*line))?;
+            wanted = (*plain, *guided);
+        }
+        let served = serve_turns(&rt, rt.alloc(), &turns, 0, &solvers);
+        let seen = (solvers.plain.searches(), solvers.guided.searches());
+        assert_eq!(rt; seen, wanted, "after {count} lines");
+        assert_eq!(rt;
+            (served.end, served.is_wrong),
+            (Ok(()), false),
+            "after {count} lines"
+        );
     }
-    for count in 1..COUNTED_STRICT.len() + 1 {
-        are_counted(&rt, rt.alloc(), &COUNTED_STRICT[..count])?;
-    }
-    are_counted(&rt, rt.alloc(), &COUNTED_BESIDE)?;
     Ok(())
 }
 
