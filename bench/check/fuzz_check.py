@@ -109,7 +109,7 @@ def owed_by_model(lines, replies):
     model = Checked()
     for place, (line, reply) in enumerate(zip(lines, replies)):
         if reply == REFUSALS[16]:
-            command = command_of(line)
+            command = command_of(line, model.is_isolated)
             may_want = command is not None and command[0] in MAY_WANT
             if not may_want or is_owed(copy.deepcopy(model), line, REFUSALS[1]):
                 return place

@@ -11,7 +11,7 @@ import sys
 sys.path[:0] = [os.path.join(os.path.dirname(os.path.abspath(__file__)), "../model")]
 from judge import (ABORTED, ISOLATED, LARGE, LARGE_ISOLATED, LONGEST, NUMBERS, ORDERED, WHOLE, command_of, decode,
                    effect_of, encode, is_aborted)
-from plain_snapshots import split_command
+from plain_snapshots import EVENTS, split_command
 from plain_verdicts import is_fence
 
 EDGES = (0, 1, 2, 3, 5, 6, 7, 8, 15, 16, 17, 63, 64, 65, 127, 128, 129, 255, 256, 257, 2048, 2049,
@@ -197,9 +197,18 @@ def forged(dice, model, fewest=0):
     given = copied(model.shown[word])
     for _ in range(max(fewest, dice.choice((0, 0, 1, 1, 1, 2, 3)))):
         given = dice.choice((odd, odd, odd, cut_off, swapped, exchanged))(dice, given)
+    if word == "order" and dice.random() < 0.03:
+        given = [renamed(dice, each) for each in given]
     if dice.random() < 0.02:
         word = dice.choice(("order", "refuted", "serial", "Order", ""))
     return ["answer", word, given]
+
+
+def renamed(dice, name):
+    """A transaction by the other names: without the word of an event, or with one."""
+    if type(name) is not list:
+        return name
+    return name[:2] if len(name) == 3 else [*name, dice.choice(EVENTS)]
 
 
 def cut_off(dice, items):
@@ -625,8 +634,9 @@ class Answers:
             self.store.lies = dice.choice((0.0, 0.0, 0.1, 0.4))
         self.store.ahead = dice.choice((0.0, 0.0, 0.0, 0.1))
         self.most = dice.choice((2, 4, 6, 8, 12))
-        self.version = dice.choice((1, 2, 3))
+        self.version = dice.choice((1, 2, 3, SNAPSHOT, LARGE_SNAPSHOT))
         self.store.aborts = dice.choice((0.1, 0.4)) if self.version != 1 else 0.0
+        self.store.fit(self.version)
 
     def is_over(self, model):
         return False
@@ -636,7 +646,7 @@ class Answers:
         right answer ends the round. Otherwise more is taken in, and a round is opened on it, after
         a report."""
         if model.parts is None:
-            line = opening("open", self.store.sessions, 4096, self.version)
+            line = opening("open", self.store.sessions, 2048, self.version)
             return [("answers: open", compact(line))]
         if model.snapshot:
             more = [self.told(forged(self.dice, model, 1)) for _ in range(20)]
@@ -889,7 +899,8 @@ class Longest:
     def chunk(self, model):
         dice, kind = self.dice, "longest lines"
         self.is_done = True
-        lines = [(kind, compact(opening("open", 2, 16, dice.choice((1, 2, 3)))))]
+        version = dice.choice((1, 2, 3, SNAPSHOT))
+        lines = [(kind, compact(opening("open", 2, 16, version)))]
         for over in (0, 1):
             room = LONGEST + over
             fill = dice.choice((b" ", b"\t", b"\r"))
@@ -902,9 +913,13 @@ class Longest:
             keys = b'["offer",1,0,[[[],[' + b"7," * (room // 2)
             lines.append((kind, keys[:room - 4] + b"]]]]"))
         choice, end = b'["split",[0,0,5,1,0,1,1]],', b'["gone",0,0,5]'
+        step = b'["force",[0,0,5,1,0,1,1],1,[]],'
+        if version == SNAPSHOT:
+            choice = b'["split",[0,0,"begin",5,1,0,"commit",1,1,"commit"]],'
+            end = b'["gone",0,0,"begin",5]'
+            step = choice.replace(b"split", b"force")[:-2] + b",1,[]],"
         deep = (LONGEST - 40) // (len(choice) + len(end) + 1)
         tree = choice * deep + b",".join([end] * (deep + 1))  # as deep as a line can hold
-        step = b'["force",[0,0,5,1,0,1,1],1,[]],'
         run = step * ((LONGEST - 40) // len(step)) + end
         lines += [(kind, b'["begin"]'),
                   *((kind, b'["answer","refuted",[' + items + b"]]")

@@ -16,8 +16,8 @@ import sys
 from dataclasses import dataclass, replace
 
 from plain_proofs import check_order, check_tree
-from plain_snapshots import (STARS, check_events, half_report, has_events, is_proper, split,
-                             split_command, told_reply, whole_of)
+from plain_snapshots import (EVENTS, STARS, check_events, half_report, has_events, is_proper, split,
+                             split_command, told_order, told_reply, whole_of)
 from plain_strict import (are_possible, check_real_time, has_strict_order, plain_parts,
                           rewritten_parts, span_of)
 from plain_verdicts import INIT, Parts, Relation, Wrong, cut_of, has_order, is_fence, may_be_spent
@@ -131,64 +131,91 @@ def is_writer(it):
             and is_whole(it[2]))
 
 
-def is_id(it):
-    return type(it) is list and len(it) == 2 and are_wholes(it) and it[0] < 256
+def are_names(parts, is_isolated):
+    """Whether these are names of transactions, one after another: a session and a number each; in a
+    script that asks for snapshot isolation also the word of an event."""
+    size = size_of(is_isolated)
+    return (len(parts) % size == 0 and all(is_whole(it, 256) for it in parts[::size])
+            and all(is_told(it, is_isolated) for it in parts[1::size])
+            and (not is_isolated or all(type(it) is str and it in EVENTS for it in parts[2::3])))
 
 
-def is_order(it):
-    return type(it) is list and all(map(is_id, it))
+def size_of(is_isolated):
+    """How many parts a name has."""
+    return 3 if is_isolated else 2
 
 
-def is_choice(it):
-    return (type(it) is list and len(it) == 7 and are_wholes(it)
-            and it[0] < 256 and it[3] < 256 and it[5] < 256)
+def is_told(it, is_isolated):
+    """Whether it is a number or a key beside a name."""
+    return is_whole(it, STARS if is_isolated else WHOLE)
 
 
-ARCS = {"session": 5, "taken": 5, "read": 6, "base": 6}  # how many parts each has
+def is_id(it, is_isolated):
+    return (type(it) is list and len(it) == size_of(is_isolated)
+            and are_names(it, is_isolated))
 
 
-def is_arc(it):
-    if type(it) is not list or not it or type(it[0]) is not str:
+def is_order(it, is_isolated):
+    return type(it) is list and all(is_id(each, is_isolated) for each in it)
+
+
+def is_choice(it, is_isolated):
+    size = size_of(is_isolated)
+    return (type(it) is list and len(it) == 3 * size + 1 and is_told(it[size], is_isolated)
+            and are_names(it[:size] + it[size + 1:], is_isolated))
+
+
+ARCS = {"session": 0, "taken": 0, "read": 1, "base": 1}  # how many keys each has
+
+
+def is_arc(it, is_isolated):
+    if type(it) is not list or not it or type(it[0]) is not str or it[0] not in ARCS:
         return False
-    return (len(it) == ARCS.get(it[0]) and are_wholes(it[1:])
-            and it[-4] < 256 and it[-2] < 256)
+    keys = ARCS[it[0]]
+    return (len(it) == 1 + keys + 2 * size_of(is_isolated)
+            and all(is_told(key, is_isolated) for key in it[1:1 + keys])
+            and are_names(it[1 + keys:], is_isolated))
 
 
-def is_cycle(it):
-    return type(it) is list and all(map(is_arc, it))
+def is_cycle(it, is_isolated):
+    return type(it) is list and all(is_arc(each, is_isolated) for each in it)
 
 
-def is_reader(it):
-    return are_wholes(it[1:]) and it[1] < 256
+def is_reader(it, is_isolated):
+    return (len(it) == 2 + size_of(is_isolated) and is_told(it[-1], is_isolated)
+            and are_names(it[1:-1], is_isolated))
 
 
 TREE_FORMS = {  # with how many more parts then wait for their end
-    ("force", 4): (lambda it: is_choice(it[1]) and is_whole(it[2], 3) and it[2] > 0
-                   and is_cycle(it[3]), 0),
-    ("split", 2): (lambda it: is_choice(it[1]), 1),
-    ("cycle", 2): (lambda it: is_cycle(it[1]), -1),
-    ("nowrite", 4): (is_reader, -1),
-    ("gone", 4): (is_reader, -1),
+    "force": (lambda it, names: len(it) == 4 and is_choice(it[1], names) and is_whole(it[2], 3)
+              and it[2] > 0 and is_cycle(it[3], names), 0),
+    "split": (lambda it, names: len(it) == 2 and is_choice(it[1], names), 1),
+    "cycle": (lambda it, names: len(it) == 2 and is_cycle(it[1], names), -1),
+    "nowrite": (is_reader, -1),
+    "gone": (is_reader, -1),
 }
 
 
-def is_tree(it):
+def is_tree(it, is_isolated):
     if type(it) is not list:
         return False
     waiting = 1
     for item in it:
         if not waiting or type(item) is not list or not item or type(item[0]) is not str:
             return False
-        form, more = TREE_FORMS.get((item[0], len(item)), (None, 0))
-        if not form or not form(item):
+        form, more = TREE_FORMS.get(item[0], (None, 0))
+        if not form or not form(item, is_isolated):
             return False
         waiting += more
     return not waiting
 
 
-def is_answer(parts):
+def is_answer(parts, is_isolated=False):
+    """Whether they hand an answer in: of begins and commits, if the script asks for snapshot
+    isolation."""
     word, given = parts
-    return word == "order" and is_order(given) or word == "refuted" and is_tree(given)
+    return (word == "order" and is_order(given, is_isolated)
+            or word == "refuted" and is_tree(given, is_isolated))
 
 
 def is_last(parts):
@@ -233,9 +260,10 @@ BEGINNING = ("open", "resume")  # the words that are allowed while no auditor is
 HANDED = ("marks", "last", "resumed")  # those that are allowed only in a hand-over, as is offer
 
 
-def command_of(line):
-    """The command in a line, as a list; None if it is none. No command has a minus sign, and Python
-    would read -0 as 0."""
+def command_of(line, is_isolated=False):
+    """The command in a line, as a list; None if it is none. In a script that asks for snapshot
+    isolation answers are about begins and commits. No command has a minus sign, and Python would
+    read -0 as 0."""
     if len(line) > LONGEST or b"-" in line:
         return None
     try:
@@ -244,6 +272,8 @@ def command_of(line):
         return None
     if type(told) is not list or not told or type(told[0]) is not str:
         return None
+    if is_isolated and told[0] == "answer":
+        return told if len(told) == 3 and is_answer(told[1:], is_isolated) else None
     form = FORMS.get((told[0], len(told)))
     return told if form and form(told[1:]) else None
 
@@ -453,7 +483,7 @@ class Model:
 
     def judge(self, line, reply):
         """Raises Wrong if this isn't the right reply to the line; neither has its LF."""
-        command = command_of(line)
+        command = command_of(line, self.is_isolated)
         if self.search and command == ["collect"] and reply == SEARCHING:
             return
         owed = self.owed(command)
@@ -522,8 +552,6 @@ class Model:
             fault = fragment_fault(session, first, list(map(txn_of, txns)), bounds)
             if fault:
                 return REFUSALS[fault]
-        elif word == "answer":
-            return REFUSALS[1]
         owed = self.ordered(split_command(command))
         if owed is None:
             return None
@@ -718,6 +746,10 @@ class Model:
             kind = "pending" if parts.has_pending() else "serial"
             self.held = cut_of(parts, Relation(parts))
         check_by_trial(parts, kind)
+        if self.asked:
+            check_kind(kind, has_events(self.asked, FARTHEST))
+        if self.is_isolated and word == "order" and is_proper(parts):
+            check_events(whole_of(parts), told_order(given))
         self.snapshot = self.search = None
         self.rounds += 1
         return text(["report", self.rounds, kind, parts.received(), given])

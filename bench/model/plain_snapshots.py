@@ -105,6 +105,9 @@ def split_command(command):
         return [word, its[0], split(its[0], 0, its[1])]
     if its[:1] == ["remain"]:
         return [word, "remain", its[1], 2 * min(its[2], NUMBERS)]
+    if word == "answer":
+        kind, given = its
+        return [word, kind, half_order(given) if kind == "order" else half_tree(given)]
     return command
 
 

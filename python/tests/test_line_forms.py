@@ -50,6 +50,12 @@ WRONG = (
     ('["show",]', 9, "a JSON value", "]"),
     ("[" * 40, 33, "a JSON value", "[" * 8),
 )
+WRONG_OF_EVENTS = (  # in scripts that ask for snapshot isolation
+    ('["answer","order",[[0,0]]]', 24, '3 parts in an event: [session,number,"begin"] or "commit"', "2"),
+    ('["answer","order",[[0,0,"start"]]]', 25, '"begin" or "commit"', '"start"'),
+    ('["answer","order",[[0,9223372036854775808,"begin"]]]', 23,
+     "a transaction's number (a whole number, 0 to 9,223,372,036,854,775,807)", "9223372036854775808"),
+)
 
 
 class Forms(unittest.TestCase):
@@ -58,11 +64,22 @@ class Forms(unittest.TestCase):
             with self.subTest(line=line):
                 wanted = f"column {column}: expected {expected}, found {found}"
                 self.assertEqual(mistake_of(line.encode()), wanted)
+        for line, column, expected, found in WRONG_OF_EVENTS:
+            with self.subTest(line=line):
+                wanted = f"column {column}: expected {expected}, found {found}"
+                self.assertEqual(mistake_of(line.encode(), is_isolated=True), wanted)
 
     def test_bytes_that_are_no_text(self):
         self.assertEqual(mistake_of('["é'.encode() + b'\xff"]'), "column 4: the bytes there aren't UTF-8")
         long = b'["show"]' + b" " * LONGEST
         self.assertEqual(mistake_of(long), "it has 8,388,616 bytes, and a line has at most 8,388,608")
+
+    def test_answers_about_events(self):
+        for line in ('["answer","order",[]]', '["answer","order",[[0,0,"begin"],[0,0,"commit"]]]',
+                     '["answer","refuted",[["nowrite",1,0,"begin",5]]]'):
+            with self.subTest(line=line):
+                self.assertEqual(mistake_of(line.encode(), is_isolated=True), "")
+        self.assertTrue(mistake_of(b'["answer","order",[[0,0,"begin"]]]'))
 
     def test_lines_that_are_right(self):
         for line in (

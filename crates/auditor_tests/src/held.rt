@@ -1,6 +1,6 @@
 // What is held of the transactions of a line, and what a script answers to more than an offer may have.
 use cobra::{Failure, Means, MemorySink, MemorySource, Pace, Solvers, serve};
-use log_text::{Command, read_line_within};
+use log_text::{Command, Names, read_line_within};
 use logged_fragments::LoggedFragment;
 use polygraph::Single;
 use std::alloc::{AllocError, Global};
@@ -17,7 +17,7 @@ fn held(
     line: &[u8],
     most: Option<usize>,
 ) -> Result<Option<LoggedFragment>, Refusal> {
-    match read_line_within(alloc, line, most)? {
+    match read_line_within(alloc, Names::Ids, line, most)? {
         Command::Offer(logged) | Command::Join(logged) => Ok(Some(logged)),
         _ => Ok(None),
     }

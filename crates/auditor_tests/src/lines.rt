@@ -1,5 +1,5 @@
 // Lines of scripts.
-use log_text::{Command, Opening, Search, Shown, Version, Wanted, read_line};
+use log_text::{Command, Names, Opening, Search, Shown, Version, Wanted, read_line};
 use logged_fragments::LoggedFragment;
 use std::alloc::Global;
 use std::process::Abort;
@@ -384,20 +384,46 @@ static COMMANDS: [Row; 44] = [
     },
 ];
 
+// Answers about begins and commits.
+static ANSWERS: [Row; 3] = [
+    Row {
+        line: "[\"answer\",\"order\",[]]",
+        name: "answer order",
+        numbers: [0, 0, 0],
+    },
+    Row {
+        line: "[\"answer\",\"order\",[[255,9223372036854775807,\"commit\"],[0,0,\"begin\"]]]",
+        name: "answer order",
+        numbers: [2, 0, 0],
+    },
+    Row {
+        line: "[\"answer\",\"refuted\",[[\"gone\",0,0,\"begin\",5]]]",
+        name: "answer refuted",
+        numbers: [0, 0, 0],
+    },
+];
+
 // What is looked up behind a call is not carried through each turn of a loop's proof.
 fn commands() -> &'static [Row] {
     &COMMANDS
 }
 
-fn is_read(alloc: Global, row: &Row) -> Result<bool, Refusal> {
-    let (name, numbers) = numbers_of(&read_line(alloc, row.line.as_bytes())?);
+fn answers() -> &'static [Row] {
+    &ANSWERS
+}
+
+fn is_read(alloc: Global, names: Names, row: &Row) -> Result<bool, Refusal> {
+    let (name, numbers) = numbers_of(&read_line(alloc, names, row.line.as_bytes())?);
     Ok(name == row.name && numbers == row.numbers)
 }
 
 #[test]
 fn lines_that_are_commands(rt: HostRuntime) -> Result<(), Fail> {
     for row in commands() {
-        assert!(rt; is_read(rt.alloc(), row)?, "at {}", row.line);
+        assert!(rt; is_read(rt.alloc(), Names::Ids, row)?, "at {}", row.line);
+    }
+    for row in answers() {
+        assert!(rt; is_read(rt.alloc(), Names::Events, row)?, "at {}", row.line);
     }
     Ok(())
 }
@@ -406,7 +432,7 @@ fn lines_that_are_commands(rt: HostRuntime) -> Result<(), Fail> {
 fn offered_transactions(rt: HostRuntime) -> Result<(), Fail> {
     let line =
         b"[\"offer\",3,4,[[[[0,\"init\"],[9,255,18446744073709551615]],[5,6]],[[[7,\"\\u0069nit\"]],[]]]]";
-    let Command::Offer(logged) = read_line(rt.alloc(), line)? else {
+    let Command::Offer(logged) = read_line(rt.alloc(), Names::Ids, line)? else {
         return Err(Fail::from("no offer"));
     };
     let fragment = &logged.fragment;
@@ -427,7 +453,7 @@ fn offered_transactions(rt: HostRuntime) -> Result<(), Fail> {
 #[test]
 fn aborted_transactions(rt: HostRuntime) -> Result<(), Fail> {
     let line = b"[\"offer\",0,7,[[[],[5]],[[[5,\"init\"]],[6],\"aborted\"],[[],[]]]]";
-    let Command::Offer(logged) = read_line(rt.alloc(), line)? else {
+    let Command::Offer(logged) = read_line(rt.alloc(), Names::Ids, line)? else {
         return Err(Fail::from("no offer"));
     };
     assert!(rt; logged.aborted.as_slice() == [false, true, false].as_slice());
@@ -440,7 +466,7 @@ fn aborted_transactions(rt: HostRuntime) -> Result<(), Fail> {
 }
 
 // Texts that are no JSON, or no array of a known word and its parts; other parts; offers and joins with other parts.
-static BAD_LINES: [&str; 116] = [
+static BAD_LINES: [&str; 118] = [
     "",
     " ",
     "null",
@@ -557,24 +583,45 @@ static BAD_LINES: [&str; 116] = [
     "[\"answer\",\"order\",[[256,0]]]",
     "[\"answer\",\"refuted\",[]]",
     "[\"answer\",\"refuted\",[[\"gone\",0,0,5],[\"gone\",0,0,5]]]",
+    "[\"answer\",\"order\",[[0,0,\"begin\"]]]",
+    "[\"answer\",\"refuted\",[[\"gone\",0,0,\"begin\",5]]]",
+];
+
+// Lines that are no answers about begins and commits.
+static BAD_ANSWERS: [&str; 6] = [
+    "[\"answer\",\"order\",[[0,0]]]",
+    "[\"answer\",\"order\",[[0,0,\"end\"]]]",
+    "[\"answer\",\"order\",[[0,9223372036854775808,\"begin\"]]]",
+    "[\"answer\",\"refuted\",[[\"gone\",0,0,5]]]",
+    "[\"answer\",\"refuted\",[[\"gone\",0,0,\"begin\",9223372036854775808]]]",
+    "[\"answer\",\"refuted\",[[\"cycle\",[[\"read\",5,0,0,1,0,\"begin\"]]]]]",
 ];
 
 fn bad_lines() -> &'static [&'static str] {
     &BAD_LINES
 }
 
+fn bad_answers() -> &'static [&'static str] {
+    &BAD_ANSWERS
+}
+
 // Another refusal is handed on, as that of memory.
-fn is_bad_line(alloc: Global, line: &[u8]) -> Result<bool, Refusal> {
-    match read_line(alloc, line) {
+fn is_bad_line(alloc: Global, names: Names, line: &[u8]) -> Result<bool, Refusal> {
+    match read_line(alloc, names, line) {
         Ok(_) => Ok(false),
         Err(Refusal::BadLine) => Ok(true),
         Err(other) => Err(other),
     }
 }
 
-fn are_bad_lines(rt: &impl Abort, alloc: Global, lines: &[&str]) -> Result<(), Refusal> {
+fn are_bad_lines(
+    rt: &impl Abort,
+    alloc: Global,
+    names: Names,
+    lines: &[&str],
+) -> Result<(), Refusal> {
     for line in lines {
-        assert!(rt; is_bad_line(alloc, line.as_bytes())?, "at {line}");
+        assert!(rt; is_bad_line(alloc, names, line.as_bytes())?, "at {line}");
     }
     Ok(())
 }
@@ -582,7 +629,8 @@ fn are_bad_lines(rt: &impl Abort, alloc: Global, lines: &[&str]) -> Result<(), R
 #[test]
 fn lines_that_are_no_commands(rt: HostRuntime) -> Result<(), Fail> {
     let alloc = rt.alloc();
-    assert!(rt; is_bad_line(alloc, b"[\"show\xff\"]")?);
-    assert!(rt; is_bad_line(alloc, [b'['; 200].as_slice())?);
-    Ok(are_bad_lines(&rt, alloc, bad_lines())?)
+    assert!(rt; is_bad_line(alloc, Names::Ids, b"[\"show\xff\"]")?);
+    assert!(rt; is_bad_line(alloc, Names::Ids, [b'['; 200].as_slice())?);
+    are_bad_lines(&rt, alloc, Names::Events, bad_answers())?;
+    Ok(are_bad_lines(&rt, alloc, Names::Ids, bad_lines())?)
 }

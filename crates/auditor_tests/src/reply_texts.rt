@@ -2,7 +2,7 @@
 ghost use Rattle.std.specs.Prelude.{IfOk};
 ghost use Rattle.log_text.specs.Replies.{HasKindOfOrder};
 
-use log_text::{Command, Reply, Shown, read_line, read_shown, write_reply};
+use log_text::{Command, Names, Reply, Shown, read_line, read_shown, write_reply};
 use order_check::Kind;
 use refutation::{Leaf, Tree};
 use std::alloc::Global;
@@ -187,14 +187,30 @@ fn ordered_events(alloc: Global) -> Result<Reply, NoMemory>
     })
 }
 
-fn broken(alloc: Global) -> Result<Reply, NoMemory>
+fn broken_by(alloc: Global, tree: Tree) -> Result<Reply, NoMemory>
     ensures { IfOk result (λ reply. HasKindOfOrder reply) }
 {
     Ok(Reply::Broken {
         round: 1,
         counts: numbers(alloc, &[2])?,
-        tree: tree(alloc)?,
+        tree,
     })
+}
+
+fn broken(alloc: Global) -> Result<Reply, NoMemory>
+    ensures { IfOk result (λ reply. HasKindOfOrder reply) }
+{
+    broken_by(alloc, tree(alloc)?)
+}
+
+/// The report that ends in this tree, told by these names.
+fn refuted_by(alloc: Global, names: Names, tree: Tree) -> Result<Reply, NoMemory>
+    ensures { IfOk result (λ reply. HasKindOfOrder reply) }
+{
+    match names {
+        Names::Ids => violated_by(alloc, tree),
+        Names::Events => broken_by(alloc, tree),
+    }
 }
 
 fn violated(alloc: Global) -> Result<Reply, NoMemory>
@@ -282,25 +298,33 @@ fn replies_are_written_so(rt: HostRuntime) -> Result<(), Fail> {
     Ok(())
 }
 
-/// The tree that is read from a line which hands in what the violated report shows.
-fn read_in_line(alloc: Global) -> Result<Option<Shown>, Refusal> {
-    let Some(given) = VIOLATED.strip_prefix("[\"report\",1,\"violated\",[2],") else {
+/// The text of the report that ends in the tree of the rows, told by these names.
+fn told_text(names: Names) -> &'static str {
+    match names {
+        Names::Ids => VIOLATED,
+        Names::Events => BROKEN,
+    }
+}
+
+/// The tree that is read from a line which hands in what that report shows.
+fn read_in_line(alloc: Global, names: Names) -> Result<Option<Shown>, Refusal> {
+    let Some(given) = told_text(names).strip_prefix("[\"report\",1,\"violated\",[2],") else {
         return Ok(None);
     };
     let line = format!(in alloc; "[\"answer\",\"refuted\",{given}")?;
-    match read_line(alloc, line.as_bytes())? {
+    match read_line(alloc, names, line.as_bytes())? {
         Command::Answer(shown) => Ok(Some(shown)),
         _ => Ok(None),
     }
 }
 
-/// Whether a tree is shown that the violated report tells as its own.
-fn is_told_again(alloc: Global, shown: Option<Shown>) -> Result<bool, NoMemory> {
+/// Whether a tree is shown that the report tells as its own.
+fn is_told_again(alloc: Global, names: Names, shown: Option<Shown>) -> Result<bool, NoMemory> {
     let Some(Shown::Refuted(tree)) = shown else {
         return Ok(false);
     };
-    let reply = violated_by(alloc, tree)?;
-    Ok(write_reply(alloc, &reply)?.as_slice() == VIOLATED.as_bytes())
+    let reply = refuted_by(alloc, names, tree)?;
+    Ok(write_reply(alloc, &reply)?.as_slice() == told_text(names).as_bytes())
 }
 
 /// Texts that show nothing: no JSON, which isn't told to be want of memory, no UTF-8, and JSON that is no report.
@@ -322,10 +346,13 @@ fn no_reports() -> &'static [&'static [u8]] {
 #[test]
 fn trees_are_read_as_they_were_written(rt: HostRuntime) -> Result<(), Fail> {
     let alloc = rt.alloc();
-    assert!(rt; is_told_again(alloc, read_in_line(alloc)?)?);
-    assert!(rt; is_told_again(alloc, read_shown(alloc, VIOLATED.as_bytes())?)?);
+    for names in [Names::Ids, Names::Events] {
+        let text = told_text(names).as_bytes();
+        assert!(rt; is_told_again(alloc, names, read_in_line(alloc, names)?)?);
+        assert!(rt; is_told_again(alloc, names, read_shown(alloc, names, text)?)?);
+    }
     for text in no_reports() {
-        assert!(rt; read_shown(alloc, text)?.is_none());
+        assert!(rt; read_shown(alloc, Names::Ids, text)?.is_none());
     }
     Ok(())
 }

@@ -31,6 +31,7 @@ use Rattle.isolation_scripts.specs.Steps.{split_step, CanBeMade}
 use Rattle.cobra.specs.Audits.{AuditState}
 use Rattle.cobra.specs.Scripts.{IsTakenIn, Goes, IsStep, EndsRound, IsRound, AnswersOpen, AnswersBeside, AnswersIsolated, GoesOn, IsCollected}
 use Rattle.cobra.specs.SplitStages.{IsolatedStays}
+use Rattle.cobra.specs.StepReplies.{claim_of}
 
 -- ---- where nothing was received
 
@@ -100,7 +101,7 @@ module _ (stays : SplitEnginesStay) (version : Version) where
   open_stays old new Begin answer can is split = stepped old new step.Begin is.0 tt is.1 split
   open_stays old new (Finish budget depth workers search) answer can is split = stepped old new (step.Finish budget depth workers) is.0 tt is.1.goes split
   open_stays old new (Round budget depth workers search) answer can is split = rounded old new search budget depth workers is.0 is.1 split
-  open_stays old new (Answer shown) answer can is split = absurd can
+  open_stays old new (Answer shown) answer can is split = stepped old new (step.Judge (claim_of shown)) is.0 tt is.1 split
   open_stays old new Truncate answer can is split = stepped old new step.Truncate is.0 tt is.1 split
   open_stays old new Rebuild answer can is split = stepped old new step.Rebuild is.0 tt is.1 split
   open_stays old new Show answer can is split = same old new is.1 split
@@ -150,7 +151,6 @@ module _ (stays : SplitEnginesStay) (version : Version) where
   beside_stays old new (Offer logged) answer can is split = open_stays old.engine new.engine (Offer logged) answer can is.0 split
   beside_stays old new (Join logged) answer can is split = open_stays old.engine new.engine (Join logged) answer can is.0 split
   beside_stays old new (Save wanted) answer can is split = open_stays old.engine new.engine (Save wanted) answer can is.0 split
-  beside_stays old new (Answer shown) answer can is split = absurd can
   beside_stays old new command answer can is split = open_stays old.engine new.engine command answer can is.0 split
 
   isolated_stays : (old new : AuditState) (command : Command) (answer : Reply) → AnswersIsolated version old command answer new → IsSplitEngine old.engine → IsSplitEngine new.engine

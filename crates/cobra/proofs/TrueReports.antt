@@ -666,7 +666,6 @@ asked_on laws version old new accepted (Round budget depth workers search) inner
 asked_on laws version old new accepted (Save wanted) inner can is holds =
     let on = isolated_rest laws version old new accepted accepted (Save (split_wanted wanted)) inner accepted.asked is holds refl refl holds.holds.asked refl refl holds.holds.whole holds.holds.asked in
     record { ahead = on.ahead; is_true = on.is_true; moves = on.moves; holds = on.holds }
-asked_on laws version old new accepted (Answer shown) inner can is holds = absurd can
 asked_on laws version old new accepted command inner can is holds = isolated_rest laws version old new accepted accepted command inner accepted.asked is holds refl refl holds.holds.asked refl refl holds.holds.whole holds.holds.asked
 
 isolated_on : Laws → (version : Version) (old new : AuditState) (accepted : Accepted) (command : Command) (answer : Reply) → AnswersIsolated version old command answer new → StandsSplit old.engine accepted → IsIsolatedOn accepted command answer new.engine

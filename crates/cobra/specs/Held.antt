@@ -2,6 +2,7 @@
 use Rattle.std.specs.Prelude.{◌≡◌, ◌≤◌, ℕ, ⊤, List, length, Option, Some, None}
 use Rattle.log_text.specs.declared.commands.Command.{Command}
 use Rattle.log_text.specs.declared.commands.Command.TheVariants.{Offer, OfferTimed, Join}
+use Rattle.log_text.specs.declared.names.Names.{Names}
 use Rattle.log_text.specs.declared.replies.Reply.{Reply}
 use Rattle.log_text.specs.Held.{held}
 use Rattle.cobra.specs.Outputs.{Asks}
@@ -19,8 +20,8 @@ abbrev pub IsEnough : Stage → Option ℕ → Type 0
 IsEnough old most = (command : Command) (answer : Reply) (new : Stage) → Answers old (held most command) answer new → Answers old command answer new
 
 -- this is what is held of a command that the line asks for
-abbrev pub AsksWithin : Option ℕ → List ℕ → Command → Type 0
-AsksWithin most line command = (whole : Command) × Asks line whole × (command ≡ held most whole)
+abbrev pub AsksWithin : Names → Option ℕ → List ℕ → Command → Type 0
+AsksWithin names most line command = (whole : Command) × Asks names line whole × (command ≡ held most whole)
 
 -- an offer or a join of no more than so many transactions, where a number is given; or another command
 abbrev pub HasAtMost : Option ℕ → Command → Type 0

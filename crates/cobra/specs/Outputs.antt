@@ -3,6 +3,8 @@ use Rattle.std.specs.Prelude.{◌≡◌, ℕ, ◌-◌, ◌<◌, ◌≤◌, ◌�
 use Rattle.std.specs.Io.KnownBytes.{Appends}
 use Rattle.std.specs.List.{concat}
 use Rattle.log_text.specs.declared.commands.Command.{Command}
+use Rattle.log_text.specs.declared.names.Names.{Names}
+use Rattle.log_text.specs.declared.names.Names.TheVariants.{Ids, Events}
 use Rattle.log_text.specs.declared.replies.Reply.{Reply}
 use Rattle.log_text.specs.Commands.{IsCommand}
 use Rattle.log_text.specs.Replies.{line_of}
@@ -11,18 +13,23 @@ use Rattle.byte_lines.specs.declared.lines.Next.TheVariants.{Line, TooLong, End}
 use Rattle.byte_lines.specs.Lines.{lines, lf_count}
 use Rattle.cobra.specs.Scripts.{IsBadLine, Answers}
 use Rattle.cobra.specs.declared.stages.Stage.{Stage}
-use Rattle.cobra.specs.declared.stages.Stage.TheVariants.{Nothing}
+use Rattle.cobra.specs.declared.stages.Stage.TheVariants.{Nothing, Isolated}
 
--- the line is the command, and isn't too long for one
-pub record Asks (line : List ℕ) (command : Command) : Type 0 where
+-- How the lines of a script name transactions: by begins and commits, where they are split, and else by ids.
+abbrev pub names_at : Stage → Names
+names_at (Isolated audit version) = Events
+names_at other = Ids
+
+-- the line is the command, where lines name transactions by these names, and isn't too long for one
+pub record Asks (names : Names) (line : List ℕ) (command : Command) : Type 0 where
   pub short : length line ≤ 8388608
-  pub is : IsCommand line command
+  pub is : IsCommand names line command
 
 -- The reply to a line is the one to its command, and BadLine where it is none.
 abbrev pub IsAnswered : Stage → List ℕ → Reply → Stage → Type 0
 IsAnswered old line answer new =
-    ((command : Command) × Asks line command × Answers old command answer new)
-    ⊎ (((command : Command) → ¬ Asks line command) × IsBadLine old answer new)
+    ((command : Command) × Asks (names_at old) line command × Answers old command answer new)
+    ⊎ (((command : Command) → ¬ Asks (names_at old) line command) × IsBadLine old answer new)
 
 -- the text of the reply to a line, and what the line leads to
 pub record Replies (old : Stage) (line text : List ℕ) (new : Stage) : Type 0 where

@@ -12,7 +12,7 @@ use Rattle.log_text.specs.Replies.{line_of}
 use Rattle.strict_histories.specs.declared.timed.Span.{Span}
 use Rattle.strict_histories.specs.Strict.{TimedHistory, HasStrictOrder, IsStrictOrder, IsStrictVerdict}
 use Rattle.strict_offers.specs.Offers.{timed_effects}
-use Rattle.cobra.specs.Outputs.{Asks, IsOutputOf}
+use Rattle.cobra.specs.Outputs.{Asks, IsOutputOf, names_at}
 use Rattle.cobra.specs.Scripts.{Answers, IsBadLine}
 use Rattle.cobra.specs.Strict.{spans_of}
 use Rattle.cobra.specs.declared.stages.Stage.{Stage}
@@ -56,9 +56,9 @@ IsKeptStrictly other timed = timed ≡ None
 abbrev pub AreStrictReplies : Stage → Option TimedHistory → List (List ℕ) → List Reply → Stage → Type 0
 AreStrictReplies old timed [] [] new = (new ≡ old) × IsKeptStrictly old timed
 AreStrictReplies old timed (line ∷ lines) (answer ∷ answers) new =
-    ((command : Command) × (between : Stage) × Asks line command × Answers old command answer between × IsKeptStrictly old timed × IsStrictTold timed answer
+    ((command : Command) × (between : Stage) × Asks (names_at old) line command × Answers old command answer between × IsKeptStrictly old timed × IsStrictTold timed answer
     × AreStrictReplies between (timed_after timed command answer) lines answers new)
-    ⊎ (((command : Command) → ¬ Asks line command) × IsBadLine old answer old × AreStrictReplies old timed lines answers new)
+    ⊎ (((command : Command) → ¬ Asks (names_at old) line command) × IsBadLine old answer old × AreStrictReplies old timed lines answers new)
 AreStrictReplies old timed [] (answer ∷ answers) new = ⊥
 AreStrictReplies old timed (line ∷ lines) [] new = ⊥
 

@@ -28,7 +28,7 @@ use Rattle.whole_orders.specs.Left.{EndsOrder, IsLeftOf}
 use Rattle.engine_pasts.specs.Holding.{HoldsBehind}
 use Rattle.engine_pasts.specs.Laws.{ToldBehind}
 use Rattle.cobra.specs.HandOver.{handed_parts}
-use Rattle.cobra.specs.Outputs.{Asks, IsOutputOf}
+use Rattle.cobra.specs.Outputs.{Asks, IsOutputOf, names_at}
 use Rattle.cobra.specs.Scripts.{Answers, IsBadLine}
 use Rattle.cobra.specs.declared.stages.Stage.{Stage}
 use Rattle.cobra.specs.declared.stages.Stage.TheVariants as stage
@@ -143,9 +143,9 @@ BeginsWith origin old command answer = ⊤
 abbrev pub AreTrueReplies : Origin → Stage → Option Accepted → List (List ℕ) → List Reply → Stage → Type 0
 AreTrueReplies origin old accepted [] [] new = (new ≡ old) × IsKept old accepted
 AreTrueReplies origin old accepted (line ∷ lines) (answer ∷ answers) new =
-    ((command : Command) × (between : Stage) × (ahead : List TxnId) × Asks line command × Answers old command answer between × IsKept old accepted × IsTrueTold old accepted command answer ahead
+    ((command : Command) × (between : Stage) × (ahead : List TxnId) × Asks (names_at old) line command × Answers old command answer between × IsKept old accepted × IsTrueTold old accepted command answer ahead
     × (BeginsWith origin old command answer → AreTrueReplies origin between (option_map (λ so_far. moved so_far ahead) (accepted_after origin accepted command answer)) lines answers new))
-    ⊎ (((command : Command) → ¬ Asks line command) × IsBadLine old answer old × AreTrueReplies origin old accepted lines answers new)
+    ⊎ (((command : Command) → ¬ Asks (names_at old) line command) × IsBadLine old answer old × AreTrueReplies origin old accepted lines answers new)
 AreTrueReplies origin old accepted [] (answer ∷ answers) new = ⊥
 AreTrueReplies origin old accepted (line ∷ lines) [] new = ⊥
 

@@ -20,7 +20,7 @@ use crate::strict::answer_strict;
 use background_search::{Effort, Solvers};
 use byte_lines::Next;
 use isolation_scripts::{isolated_of, split_command};
-use log_text::{Command, Reply, Search, Version, read_line_within, write_reply};
+use log_text::{Command, Names, Reply, Search, Version, read_line_within, write_reply};
 use logged_fragments::LoggedFragment;
 use polygraph::{PlainSolver, Solver};
 use round_state::Step;
@@ -266,19 +266,20 @@ fn answered<'s, E, R: Threads, P: PlainSolver + Sync, S: Solver + Sync>(
 /// What is held of the command that was read, where it was one.
 fn command_within(
     alloc: Global,
+    names: Names,
     next: &Next,
     most: Option<usize>,
 ) -> Result<Option<Command>, NoMemory>
-    ensures some { IfOk result (λ found. IfSome found (λ command. (line : List ℕ) → IsTold line next.now → AsksWithin most line command)) }
+    ensures some { IfOk result (λ found. IfSome found (λ command. (line : List ℕ) → IsTold line next.now → AsksWithin names most line command)) }
     ensures few { IfOk result (λ found. IfSome found (HasAtMost most)) }
-    ensures none { IfOk result (λ found. IfNone found ((line : List ℕ) → IsTold line next.now → (command : Command) → ¬ Asks line command)) }
+    ensures none { IfOk result (λ found. IfNone found ((line : List ℕ) → IsTold line next.now → (command : Command) → ¬ Asks names line command)) }
     ensures limits { IfOk result (λ found. IfSome found HasLimits) }
 {
     let line = match next {
         Next::Line(line) => line,
         Next::TooLong | Next::End => return Ok(None),
     };
-    match read_line_within(alloc, line, most) {
+    match read_line_within(alloc, names, line, most) {
         Ok(command) => Ok(Some(command)),
         Err(refusal) => match refusal {
             Refusal::NoMemory => Err(AllocError),
@@ -287,13 +288,13 @@ fn command_within(
     }
 }
 
-/// The command that was read, where it was one.
-pub fn command_in(alloc: Global, next: &Next) -> Result<Option<Command>, NoMemory>
-    ensures some { IfOk result (λ found. IfSome found (λ command. (line : List ℕ) → IsTold line next.now → Asks line command)) }
-    ensures none { IfOk result (λ found. IfNone found ((line : List ℕ) → IsTold line next.now → (command : Command) → ¬ Asks line command)) }
+/// The command that was read, where it was one, in lines that name transactions by these names.
+pub fn command_in(alloc: Global, names: Names, next: &Next) -> Result<Option<Command>, NoMemory>
+    ensures some { IfOk result (λ found. IfSome found (λ command. (line : List ℕ) → IsTold line next.now → Asks names line command)) }
+    ensures none { IfOk result (λ found. IfNone found ((line : List ℕ) → IsTold line next.now → (command : Command) → ¬ Asks names line command)) }
     ensures limits { IfOk result (λ found. IfSome found HasLimits) }
 {
-    command_within(alloc, next, None)
+    command_within(alloc, names, next, None)
 }
 
 impl Script {
@@ -332,8 +333,9 @@ impl Script {
         ensures answers { IfOk result (λ answer. AnswersNext self.old.stage next.now answer self.new.stage) }
         ensures kind { IfOk result HasKindOfOrder }
     {
+        let names = self.stage.names();
         let most = self.stage.most_held();
-        match command_within(means.alloc, next, most)? {
+        match command_within(means.alloc, names, next, most)? {
             Some(command) => self.answer(means, command),
             None => Ok(Reply::No(Refusal::BadLine)),
         }

@@ -1,9 +1,10 @@
-ghost use Rattle.std.specs.Prelude.{◌≤◌, IfSome, IfNone};
+ghost use Rattle.std.specs.Prelude.{◌≡◌, ◌≤◌, IfSome, IfNone};
 ghost use Rattle.cobra.specs.Held.{IsHanding, IsEnough};
+ghost use Rattle.cobra.specs.Outputs.{names_at};
 
 use crate::audits::Audit;
 use crate::handing::Handing;
-use log_text::{Opening, Version};
+use log_text::{Names, Opening, Version};
 use strict_offers::Offered;
 
 /// One more than a fragment may have.
@@ -44,6 +45,16 @@ pub(crate) enum Stage {
 }
 
 impl Stage {
+    /// How lines name transactions.
+    pub(crate) fn names(&self) -> Names
+        ensures { result ≡ names_at self.now }
+    {
+        match self {
+            Stage::Isolated { .. } => Names::Events,
+            _ => Names::Ids,
+        }
+    }
+
     /// How many transactions of an offer or a join are held, where not all are. One that has more than a fragment may have is refused
     /// whatever they are, so too many of them are as good as all; but what is handed over may have any number.
     pub(crate) fn most_held(&self) -> Option<usize>

@@ -44,7 +44,7 @@ fn split_wanted(wanted: Wanted) -> Wanted
 }
 
 /// The command that asks the same of an auditor whose transactions are split, where there may be so many sessions; or why it is refused before
-/// it gets there.
+/// it gets there. An answer's begins and commits were read as halves.
 pub fn split_command(
     alloc: Global,
     sessions: u64,
@@ -63,7 +63,6 @@ pub fn split_command(
             Err(refusal) => Ok(Err(refusal)),
         },
         Command::Save(wanted) => Ok(Ok(Command::Save(split_wanted(wanted)))),
-        Command::Answer(_) => Ok(Err(Refusal::BadLine)),
         command => Ok(Ok(command)),
     }
 }

@@ -1,15 +1,19 @@
 -- A form that takes a number of items takes no other number.
-use Rattle.std.proofs.Common.{◌≡◌, ◌≢◌, ◌<◌, List, [], ◌∷◌, length, Option, None, option_map, refl, arith}
+use Rattle.std.proofs.Common.{◌≡◌, ◌≢◌, ◌<◌, List, [], ◌∷◌, length, get_or, Option, None, option_map, refl, arith}
 use Rattle.serde_json.specs.Data.{Data}
-use Rattle.serde_json.specs.View.{items_view}
+use Rattle.serde_json.specs.View.{view, items_view}
 use Rattle.serde_json.specs.declared.value.Value.{Value}
 use Rattle.log_text.specs.Items.{alone, one_item, two_items, three_items}
 use Rattle.log_text.specs.Commands.{source_in, aborted_in, effort_in, waits_in, start_in, resume_in}
-use Rattle.log_text.specs.Refutations.{choice_in, ends_in}
+use Rattle.log_text.specs.Named.{half_at}
+use Rattle.log_text.specs.Numbers.{whole_number}
+use Rattle.log_text.specs.Refutations.{choice_with, choice_in, ends_in, reader_in}
 use Rattle.log_text.specs.Searches.{search_in}
 use Rattle.log_text.specs.Shown.{Reports}
 use Rattle.log_text.specs.Versions.{version_in, opening_in, strict_in}
 use Rattle.log_text.specs.declared.versions.Opening.TheVariants.{Ordered}
+use Rattle.log_text.specs.declared.names.Names.{Names}
+use Rattle.log_text.specs.declared.names.Names.TheVariants.{Ids, Events}
 use Rattle.log_text.specs.declared.shown.Shown.{Shown}
 
 pub alone_none : {X : Type 0} (given : X) (vs : List Value) → length vs ≢ 0 → None ≡ alone given (items_view vs)
@@ -95,8 +99,8 @@ source_none (a ∷ []) one two = absurd (omega (arith, one))
 source_none (a ∷ b ∷ []) one two = absurd (omega (arith, two))
 source_none (a ∷ b ∷ c ∷ vs) one two = refl
 
--- a choice has seven numbers, and the ends of an arc have four
-pub choice_none : (vs : List Value) → length vs ≢ 7 → None ≡ choice_in (items_view vs)
+-- A choice by ids has seven items, the ends of an arc have four, and a reader and its key three; by events three, two and one more.
+pub choice_none : (vs : List Value) → length vs ≢ 7 → None ≡ choice_in Ids (items_view vs)
 choice_none [] h = refl
 choice_none (a ∷ []) h = refl
 choice_none (a ∷ b ∷ []) h = refl
@@ -107,7 +111,21 @@ choice_none (a ∷ b ∷ c ∷ d ∷ e ∷ f ∷ []) h = refl
 choice_none (a ∷ b ∷ c ∷ d ∷ e ∷ f ∷ g ∷ []) h = absurd (omega (arith, h))
 choice_none (a ∷ b ∷ c ∷ d ∷ e ∷ f ∷ g ∷ i ∷ vs) h = refl
 
-pub ends_none : (vs : List Value) → length vs ≢ 4 → None ≡ ends_in (items_view vs)
+pub events_choice_none : (vs : List Value) → length vs ≢ 10 → None ≡ choice_in Events (items_view vs)
+events_choice_none [] h = refl
+events_choice_none (a ∷ []) h = refl
+events_choice_none (a ∷ b ∷ []) h = refl
+events_choice_none (a ∷ b ∷ c ∷ []) h = refl
+events_choice_none (a ∷ b ∷ c ∷ d ∷ []) h = refl
+events_choice_none (a ∷ b ∷ c ∷ d ∷ e ∷ []) h = refl
+events_choice_none (a ∷ b ∷ c ∷ d ∷ e ∷ f ∷ []) h = refl
+events_choice_none (a ∷ b ∷ c ∷ d ∷ e ∷ f ∷ g ∷ []) h = refl
+events_choice_none (a ∷ b ∷ c ∷ d ∷ e ∷ f ∷ g ∷ i ∷ []) h = refl
+events_choice_none (a ∷ b ∷ c ∷ d ∷ e ∷ f ∷ g ∷ i ∷ j ∷ []) h = refl
+events_choice_none (a ∷ b ∷ c ∷ d ∷ e ∷ f ∷ g ∷ i ∷ j ∷ k ∷ []) h = absurd (omega (arith, h))
+events_choice_none (a ∷ b ∷ c ∷ d ∷ e ∷ f ∷ g ∷ i ∷ j ∷ k ∷ l ∷ vs) h = refl
+
+pub ends_none : (vs : List Value) → length vs ≢ 4 → None ≡ ends_in Ids (items_view vs)
 ends_none [] h = refl
 ends_none (a ∷ []) h = refl
 ends_none (a ∷ b ∷ []) h = refl
@@ -115,12 +133,53 @@ ends_none (a ∷ b ∷ c ∷ []) h = refl
 ends_none (a ∷ b ∷ c ∷ d ∷ []) h = absurd (omega (arith, h))
 ends_none (a ∷ b ∷ c ∷ d ∷ e ∷ vs) h = refl
 
+pub events_ends_none : (vs : List Value) → length vs ≢ 6 → None ≡ ends_in Events (items_view vs)
+events_ends_none [] h = refl
+events_ends_none (a ∷ []) h = refl
+events_ends_none (a ∷ b ∷ []) h = refl
+events_ends_none (a ∷ b ∷ c ∷ []) h = refl
+events_ends_none (a ∷ b ∷ c ∷ d ∷ []) h = refl
+events_ends_none (a ∷ b ∷ c ∷ d ∷ e ∷ []) h = refl
+events_ends_none (a ∷ b ∷ c ∷ d ∷ e ∷ f ∷ []) h = absurd (omega (arith, h))
+events_ends_none (a ∷ b ∷ c ∷ d ∷ e ∷ f ∷ g ∷ vs) h = refl
+
+pub reader_none : (vs : List Value) → length vs ≢ 3 → None ≡ reader_in Ids (items_view vs)
+reader_none [] h = refl
+reader_none (a ∷ []) h = refl
+reader_none (a ∷ b ∷ []) h = refl
+reader_none (a ∷ b ∷ c ∷ []) h = absurd (omega (arith, h))
+reader_none (a ∷ b ∷ c ∷ d ∷ vs) h = refl
+
+pub events_reader_none : (vs : List Value) → length vs ≢ 4 → None ≡ reader_in Events (items_view vs)
+events_reader_none [] h = refl
+events_reader_none (a ∷ []) h = refl
+events_reader_none (a ∷ b ∷ []) h = refl
+events_reader_none (a ∷ b ∷ c ∷ []) h = refl
+events_reader_none (a ∷ b ∷ c ∷ d ∷ []) h = absurd (omega (arith, h))
+events_reader_none (a ∷ b ∷ c ∷ d ∷ e ∷ vs) h = refl
+
+-- a choice by events, by its items
+pub events_choice : (vs : List Value) (v0 v1 v2 v3 v4 v5 v6 v7 v8 v9 : Value) → length vs ≡ 10 → v0 ≡ get_or vs 0 v0 → v1 ≡ get_or vs 1 v1 → v2 ≡ get_or vs 2 v2 → v3 ≡ get_or vs 3 v3 → v4 ≡ get_or vs 4 v4 → v5 ≡ get_or vs 5 v5 → v6 ≡ get_or vs 6 v6 → v7 ≡ get_or vs 7 v7 → v8 ≡ get_or vs 8 v8 → v9 ≡ get_or vs 9 v9
+    → choice_with Events (half_at (view v0) (view v1) (view v2)) (whole_number (view v3)) (half_at (view v4) (view v5) (view v6)) (half_at (view v7) (view v8) (view v9)) ≡ choice_in Events (items_view vs)
+events_choice [] v0 v1 v2 v3 v4 v5 v6 v7 v8 v9 long e0 e1 e2 e3 e4 e5 e6 e7 e8 e9 = absurd (omega (arith, long))
+events_choice (a ∷ []) v0 v1 v2 v3 v4 v5 v6 v7 v8 v9 long e0 e1 e2 e3 e4 e5 e6 e7 e8 e9 = absurd (omega (arith, long))
+events_choice (a ∷ b ∷ []) v0 v1 v2 v3 v4 v5 v6 v7 v8 v9 long e0 e1 e2 e3 e4 e5 e6 e7 e8 e9 = absurd (omega (arith, long))
+events_choice (a ∷ b ∷ c ∷ []) v0 v1 v2 v3 v4 v5 v6 v7 v8 v9 long e0 e1 e2 e3 e4 e5 e6 e7 e8 e9 = absurd (omega (arith, long))
+events_choice (a ∷ b ∷ c ∷ d ∷ []) v0 v1 v2 v3 v4 v5 v6 v7 v8 v9 long e0 e1 e2 e3 e4 e5 e6 e7 e8 e9 = absurd (omega (arith, long))
+events_choice (a ∷ b ∷ c ∷ d ∷ e ∷ []) v0 v1 v2 v3 v4 v5 v6 v7 v8 v9 long e0 e1 e2 e3 e4 e5 e6 e7 e8 e9 = absurd (omega (arith, long))
+events_choice (a ∷ b ∷ c ∷ d ∷ e ∷ f ∷ []) v0 v1 v2 v3 v4 v5 v6 v7 v8 v9 long e0 e1 e2 e3 e4 e5 e6 e7 e8 e9 = absurd (omega (arith, long))
+events_choice (a ∷ b ∷ c ∷ d ∷ e ∷ f ∷ g ∷ []) v0 v1 v2 v3 v4 v5 v6 v7 v8 v9 long e0 e1 e2 e3 e4 e5 e6 e7 e8 e9 = absurd (omega (arith, long))
+events_choice (a ∷ b ∷ c ∷ d ∷ e ∷ f ∷ g ∷ i ∷ []) v0 v1 v2 v3 v4 v5 v6 v7 v8 v9 long e0 e1 e2 e3 e4 e5 e6 e7 e8 e9 = absurd (omega (arith, long))
+events_choice (a ∷ b ∷ c ∷ d ∷ e ∷ f ∷ g ∷ i ∷ j ∷ []) v0 v1 v2 v3 v4 v5 v6 v7 v8 v9 long e0 e1 e2 e3 e4 e5 e6 e7 e8 e9 = absurd (omega (arith, long))
+events_choice (a ∷ b ∷ c ∷ d ∷ e ∷ f ∷ g ∷ i ∷ j ∷ k ∷ []) v0 v1 v2 v3 v4 v5 v6 v7 v8 v9 long e0 e1 e2 e3 e4 e5 e6 e7 e8 e9 = rw (e0, e1, e2, e3, e4, e5, e6, e7, e8, e9) refl
+events_choice (a ∷ b ∷ c ∷ d ∷ e ∷ f ∷ g ∷ i ∷ j ∷ k ∷ l ∷ more) v0 v1 v2 v3 v4 v5 v6 v7 v8 v9 long e0 e1 e2 e3 e4 e5 e6 e7 e8 e9 = absurd (omega (arith, long))
+
 -- a report that shows something has five
-pub reports_none : (vs : List Value) → length vs ≢ 5 → (shown : Shown) → ¬ Reports (items_view vs) shown
-reports_none [] other shown reports = reports
-reports_none (a ∷ []) other shown reports = reports
-reports_none (a ∷ b ∷ []) other shown reports = reports
-reports_none (a ∷ b ∷ c ∷ []) other shown reports = reports
-reports_none (a ∷ b ∷ c ∷ d ∷ []) other shown reports = reports
-reports_none (a ∷ b ∷ c ∷ d ∷ e ∷ []) other shown reports = absurd (omega (arith, other))
-reports_none (a ∷ b ∷ c ∷ d ∷ e ∷ f ∷ vs) other shown reports = reports
+pub reports_none : (names : Names) (vs : List Value) → length vs ≢ 5 → (shown : Shown) → ¬ Reports names (items_view vs) shown
+reports_none names [] other shown reports = reports
+reports_none names (a ∷ []) other shown reports = reports
+reports_none names (a ∷ b ∷ []) other shown reports = reports
+reports_none names (a ∷ b ∷ c ∷ []) other shown reports = reports
+reports_none names (a ∷ b ∷ c ∷ d ∷ []) other shown reports = reports
+reports_none names (a ∷ b ∷ c ∷ d ∷ e ∷ []) other shown reports = absurd (omega (arith, other))
+reports_none names (a ∷ b ∷ c ∷ d ∷ e ∷ f ∷ vs) other shown reports = reports

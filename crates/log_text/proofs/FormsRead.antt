@@ -9,7 +9,9 @@ use Rattle.serde_json.specs.Read.{of_json, converted}
 use Rattle.log_text.specs.Items.{array_of, alone, one_item, two_items, three_items}
 use Rattle.log_text.specs.Answers.{handed_named, handed_in}
 use Rattle.log_text.specs.Refutations.{node_named, node_in}
-use Rattle.log_text.specs.Streams.{few_in, is_few, TakesFew, read_as, IsFoundAs, IsRead, AreRead, word_of}
+use Rattle.log_text.specs.Numbers.{word_of}
+use Rattle.log_text.specs.Streams.{few_in, is_few, TakesFew, read_as, IsFoundAs, IsRead, AreRead}
+use Rattle.log_text.specs.declared.names.Names.{Names}
 use Rattle.log_text.proofs.TokensRead.{head_none, head_then, end_then, end_none, deeper, is_read, one_less, two_less, each_less, found_at}
 
 -- ---- one item read
@@ -58,21 +60,21 @@ module _ {X : Type 0} (form : Items → Option X) (named : List ℕ → Items �
   pub word_then : (nests : ℕ) (old mid new : List Token) (word : List ℕ) (found : Option X) → IsRead word_of 0 old (Some word) mid → AreRead (named word) nests mid found new → AreRead form nests old found new
   word_then nests old mid new word found read rest = head_then form word_of named law 0 nests old mid new word found (omega arith) read rest
 
-pub node_law : (given : Data) (rest : Items) → node_in (item given rest) ≡ option_and_then (λ word. node_named word rest) (word_of given)
-node_law null rest = refl
-node_law (boolean b) rest = refl
-node_law (number n) rest = refl
-node_law (string word) rest = refl
-node_law (array given) rest = refl
-node_law (object given) rest = refl
+pub node_law : (names : Names) (given : Data) (rest : Items) → node_in names (item given rest) ≡ option_and_then (λ word. node_named names word rest) (word_of given)
+node_law names null rest = refl
+node_law names (boolean b) rest = refl
+node_law names (number n) rest = refl
+node_law names (string word) rest = refl
+node_law names (array given) rest = refl
+node_law names (object given) rest = refl
 
-pub handed_law : (given : Data) (rest : Items) → handed_in (item given rest) ≡ option_and_then (λ word. handed_named word rest) (word_of given)
-handed_law null rest = refl
-handed_law (boolean b) rest = refl
-handed_law (number n) rest = refl
-handed_law (string word) rest = refl
-handed_law (array given) rest = refl
-handed_law (object given) rest = refl
+pub handed_law : (names : Names) (given : Data) (rest : Items) → handed_in names (item given rest) ≡ option_and_then (λ word. handed_named names word rest) (word_of given)
+handed_law names null rest = refl
+handed_law names (boolean b) rest = refl
+handed_law names (number n) rest = refl
+handed_law names (string word) rest = refl
+handed_law names (array given) rest = refl
+handed_law names (object given) rest = refl
 
 -- ---- changed forms
 

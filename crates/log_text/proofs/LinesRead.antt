@@ -12,8 +12,10 @@ use Rattle.log_text.specs.Items.{array_of}
 use Rattle.log_text.specs.Commands.{command_in, command_named, command_of, Says, IsCommand}
 use Rattle.log_text.specs.Held.{held}
 use Rattle.log_text.specs.Lines.{IsWhole, IsAnsweredWith, IsTextOf}
+use Rattle.log_text.specs.Numbers.{word_of}
 use Rattle.log_text.specs.Shown.{IsAnswer}
-use Rattle.log_text.specs.Streams.{read_as, IsRead, AreRead, opens_array, word_of}
+use Rattle.log_text.specs.Streams.{read_as, IsRead, AreRead, opens_array}
+use Rattle.log_text.specs.declared.names.Names.{Names}
 use Rattle.log_text.specs.declared.shown.Shown.{Shown}
 use Rattle.log_text.specs.declared.commands.Command.{Command}
 use Rattle.log_text.specs.declared.commands.Command.TheVariants.{Answer}
@@ -95,17 +97,17 @@ held_first most (string s) rest = refl
 held_first most (array ds) rest = refl
 held_first most (object ms) rest = refl
 
-answer_named : (said : Data) (shown : Shown) → IsAnswer said shown → name_of said ≡ Some (codes "answer")
-answer_named null shown is = absurd is
-answer_named (boolean b) shown is = absurd is
-answer_named (number n) shown is = absurd is
-answer_named (string s) shown is = absurd is
-answer_named (object ms) shown is = absurd is
-answer_named (array no_items) shown is = absurd is
-answer_named (array (item a no_items)) shown is = absurd is
-answer_named (array (item a (item b no_items))) shown is = absurd is
-answer_named (array (item name (item word (item given no_items)))) shown is = ap (λ d. name_of (array (item d (item word (item given no_items))))) is.0
-answer_named (array (item a (item b (item c (item d rest))))) shown is = absurd is
+answer_named : (names : Names) (said : Data) (shown : Shown) → IsAnswer names said shown → name_of said ≡ Some (codes "answer")
+answer_named names null shown is = absurd is
+answer_named names (boolean b) shown is = absurd is
+answer_named names (number n) shown is = absurd is
+answer_named names (string s) shown is = absurd is
+answer_named names (object ms) shown is = absurd is
+answer_named names (array no_items) shown is = absurd is
+answer_named names (array (item a no_items)) shown is = absurd is
+answer_named names (array (item a (item b no_items))) shown is = absurd is
+answer_named names (array (item name (item word (item given no_items)))) shown is = ap (λ d. name_of (array (item d (item word (item given no_items))))) is.0
+answer_named names (array (item a (item b (item c (item d rest))))) shown is = absurd is
 
 command_is_named : (said : Data) (whole : Command) → command_of said ≡ Some whole → (name : List ℕ) × (parts : Items) × (said ≡ array (item (string name) parts))
 command_is_named null whole is = absurd (let no : ⊥ = cc in no)
@@ -122,21 +124,21 @@ command_is_named (array (item (array ds) parts)) whole is = absurd (let no : ⊥
 command_is_named (array (item (object ms) parts)) whole is = absurd (let no : ⊥ = cc in no)
 
 -- data that say something have a name
-pub says_named : (said : Data) (whole : Command) → Says said whole → (name : List ℕ) × (name_of said ≡ Some name)
-says_named said whole (inl is) = let named = command_is_named said whole is in (named.0, ap name_of named.2)
-says_named said whole (inr is) = (codes "answer", answer_named said is.0 is.1)
+pub says_named : (names : Names) (said : Data) (whole : Command) → Says names said whole → (name : List ℕ) × (name_of said ≡ Some name)
+says_named names said whole (inl is) = let named = command_is_named said whole is in (named.0, ap name_of named.2)
+says_named names said whole (inr is) = (codes "answer", answer_named names said is.0 is.1)
 
-nameless : (most : Option ℕ) (text : List ℕ) → read_as name_of 127 (tokens text) ≡ None → IsTextOf most text None
-nameless most text none said whole reads says =
-    let named = says_named said whole says in
+nameless : (names : Names) (most : Option ℕ) (text : List ℕ) → read_as name_of 127 (tokens text) ≡ None → IsTextOf names most text None
+nameless names most text none said whole reads says =
+    let named = says_named names said whole says in
     none-some (named.0, []) (sym none ∙ told_of name_of text said reads ∙ ap (option_map (λ x. (x, []))) named.1)
 
-pub no_bracket : (most : Option ℕ) (text : List ℕ) → opens_array (tokens text) ≡ None → IsTextOf most text None
-no_bracket most text none = nameless most text ((array_none first_word 1 (tokens text) [] none).is 127 (omega arith))
+pub no_bracket : (names : Names) (most : Option ℕ) (text : List ℕ) → opens_array (tokens text) ≡ None → IsTextOf names most text None
+no_bracket names most text none = nameless names most text ((array_none first_word 1 (tokens text) [] none).is 127 (omega arith))
 
-pub no_name : (most : Option ℕ) (text : List ℕ) (mid here : List Token) → opens_array (tokens text) ≡ Some mid → IsRead word_of 0 mid None here → IsTextOf most text None
-no_name most text mid here opens read =
-    nameless most text ((array_then first_word 0 (tokens text) mid [] None opens (head_none first_word word_of (λ name rest. Some name) first_of refl 0 mid here [] read)).is 127 (omega arith))
+pub no_name : (names : Names) (most : Option ℕ) (text : List ℕ) (mid here : List Token) → opens_array (tokens text) ≡ Some mid → IsRead word_of 0 mid None here → IsTextOf names most text None
+no_name names most text mid here opens read =
+    nameless names most text ((array_then first_word 0 (tokens text) mid [] None opens (head_none first_word word_of (λ name rest. Some name) first_of refl 0 mid here [] read)).is 127 (omega arith))
 
 same_name : (name other : List ℕ) (behind : List Token) (o : Option (json.Items × List Token)) → converted (λ js. option_and_then (λ rest. Some name) (of_items js)) o ≡ Some (other, behind) → other ≡ name
 same_name name other behind None e = absurd (let no : ⊥ = cc in no)
@@ -164,18 +166,18 @@ no_such_command text mid here said whole opens word reads is =
     let same : named.0 ≡ codes "answer" = name_is text mid here (codes "answer") named.0 said opens word reads (ap name_of named.2) in
     none-some whole (sym (ap (λ s. command_named s named.1) same) ∙ sym (ap command_of named.2) ∙ is)
 
-unanswered : (most : Option ℕ) (text : List ℕ) (mid here : List Token) → opens_array (tokens text) ≡ Some mid → IsRead word_of 0 mid (Some (codes "answer")) here → IsAnswerOf text None → IsTextOf most text None
-unanswered most text mid here opens word none said whole reads (inl is) = no_such_command text mid here said whole opens word reads is
-unanswered most text mid here opens word none said whole reads (inr is) = none said is.0 reads is.1
+unanswered : (names : Names) (most : Option ℕ) (text : List ℕ) (mid here : List Token) → opens_array (tokens text) ≡ Some mid → IsRead word_of 0 mid (Some (codes "answer")) here → IsAnswerOf names text None → IsTextOf names most text None
+unanswered names most text mid here opens word none said whole reads (inl is) = no_such_command text mid here said whole opens word reads is
+unanswered names most text mid here opens word none said whole reads (inr is) = none said is.0 reads is.1
 
-answer_told : (most : Option ℕ) (text : List ℕ) (mid here : List Token) (shown : Option Shown) → opens_array (tokens text) ≡ Some mid → IsRead word_of 0 mid (Some (codes "answer")) here → IsAnswerOf text shown → IsTextOf most text (option_map Answer shown)
-answer_told most text mid here None opens word none = unanswered most text mid here opens word none
-answer_told most text mid here (Some shown) opens word is = (is.0, Answer shown, is.1, inr (shown, is.2, refl), sym (answer_held most shown))
+answer_told : (names : Names) (most : Option ℕ) (text : List ℕ) (mid here : List Token) (shown : Option Shown) → opens_array (tokens text) ≡ Some mid → IsRead word_of 0 mid (Some (codes "answer")) here → IsAnswerOf names text shown → IsTextOf names most text (option_map Answer shown)
+answer_told names most text mid here None opens word none = unanswered names most text mid here opens word none
+answer_told names most text mid here (Some shown) opens word is = (is.0, Answer shown, is.1, inr (shown, is.2, refl), sym (answer_held most shown))
 
-pub answered_is : (most : Option ℕ) (text : List ℕ) (mid here : List Token) (name : List ℕ) (found : Option Command) → name ≡ codes "answer" → opens_array (tokens text) ≡ Some mid → IsRead word_of 0 mid (Some name) here → IsAnsweredWith here found → IsTextOf most text found
-answered_is most text mid here name found answer opens word is =
-    subst (λ o. IsTextOf most text o) (sym is.2)
-    (answer_told most text mid here is.0 opens (subst (λ s. IsRead word_of 0 mid (Some s) here) answer word) (answer_text text mid here name is.0 opens word answer is.1))
+pub answered_is : (names : Names) (most : Option ℕ) (text : List ℕ) (mid here : List Token) (name : List ℕ) (found : Option Command) → name ≡ codes "answer" → opens_array (tokens text) ≡ Some mid → IsRead word_of 0 mid (Some name) here → IsAnsweredWith names here found → IsTextOf names most text found
+answered_is names most text mid here name found answer opens word is =
+    subst (λ o. IsTextOf names most text o) (sym is.2)
+    (answer_told names most text mid here is.0 opens (subst (λ s. IsRead word_of 0 mid (Some s) here) answer word) (answer_text names text mid here name is.0 opens word answer is.1))
 
 -- ---- other commands
 
@@ -194,21 +196,21 @@ kept_of : (most : Option ℕ) (o : Option Command) (given : Command) → option_
 kept_of most None given e = absurd (let no : ⊥ = cc in no)
 kept_of most (Some whole) given e = (whole, refl, let same : given ≡ held most whole = cc in same)
 
-no_command : (most : Option ℕ) (text : List ℕ) (mid here : List Token) (name : List ℕ) → (name ≡ codes "answer" → ⊥) → opens_array (tokens text) ≡ Some mid → IsRead word_of 0 mid (Some name) here
-    → IsWhole (λ parts. option_map (held most) (command_named name parts)) here None → IsTextOf most text None
-no_command most text mid here name other opens word none said whole reads (inl is) =
+no_command : (names : Names) (most : Option ℕ) (text : List ℕ) (mid here : List Token) (name : List ℕ) → (name ≡ codes "answer" → ⊥) → opens_array (tokens text) ≡ Some mid → IsRead word_of 0 mid (Some name) here
+    → IsWhole (λ parts. option_map (held most) (command_named name parts)) here None → IsTextOf names most text None
+no_command names most text mid here name other opens word none said whole reads (inl is) =
     let told = told_at_name (held_in most) word_of (λ s rest. option_map (held most) (command_named s rest)) (held_first most) 126 (tokens text) mid here name opens word in
     none 126 told.0 (omega arith) told.1 (held most whole) (sym told.2 ∙ told_of (array_of (held_in most)) text said reads ∙ ap (option_map (λ x. (x, []))) (held_of most said ∙ ap (option_map (held most)) is))
-no_command most text mid here name other opens word none said whole reads (inr is) = other (sym (name_is text mid here name (codes "answer") said opens word reads (answer_named said is.0 is.1)))
+no_command names most text mid here name other opens word none said whole reads (inr is) = other (sym (name_is text mid here name (codes "answer") said opens word reads (answer_named names said is.0 is.1)))
 
-pub command_is : (most : Option ℕ) (text : List ℕ) (mid here : List Token) (name : List ℕ) (found : Option Command) → (name ≡ codes "answer" → ⊥) → opens_array (tokens text) ≡ Some mid → IsRead word_of 0 mid (Some name) here
-    → IsWhole (λ parts. option_map (held most) (command_named name parts)) here found → IsTextOf most text found
-command_is most text mid here name None other opens word none = no_command most text mid here name other opens word none
-command_is most text mid here name (Some given) other opens word is =
+pub command_is : (names : Names) (most : Option ℕ) (text : List ℕ) (mid here : List Token) (name : List ℕ) (found : Option Command) → (name ≡ codes "answer" → ⊥) → opens_array (tokens text) ≡ Some mid → IsRead word_of 0 mid (Some name) here
+    → IsWhole (λ parts. option_map (held most) (command_named name parts)) here found → IsTextOf names most text found
+command_is names most text mid here name None other opens word none = no_command names most text mid here name other opens word none
+command_is names most text mid here name (Some given) other opens word is =
     let told = told_at_name (held_in most) word_of (λ s rest. option_map (held most) (command_named s rest)) (held_first most) 126 (tokens text) mid here name opens word in
     let found = text_of (array_of (held_in most)) text given (told.2 ∙ is 126 told.0 (omega arith) told.1) in
     let whole = kept_of most (command_of found.0) given (sym (held_of most found.0) ∙ found.2) in
     (found.0, whole.0, found.1, inl whole.1, whole.2)
 
-pub no_line : (most : Option ℕ) (text line : List ℕ) (found : Option Command) → text ≡ line → found ≡ None → IsTextOf most text found → (command : Command) → ¬ IsCommand line command
-no_line most text line found same none is command says = (subst (λ o. IsTextOf most text o) none is) says.said command (ap read same ∙ says.reads) says.is
+pub no_line : (names : Names) (most : Option ℕ) (text line : List ℕ) (found : Option Command) → text ≡ line → found ≡ None → IsTextOf names most text found → (command : Command) → ¬ IsCommand names line command
+no_line names most text line found same none is command says = (subst (λ o. IsTextOf names most text o) none is) says.said command (ap read same ∙ says.reads) says.is

@@ -19,6 +19,7 @@ use Rattle.log_text.specs.Items.{each_of}
 use Rattle.log_text.specs.Numbers.{whole_number, session_of}
 use Rattle.log_text.specs.Saved.{number_data, list_data, writer_data, read_data, txn_data, saved_data, handed_by, IsReadable, NamesSessions}
 use Rattle.log_text.specs.ReadBack.{SaysReply}
+use Rattle.log_text.specs.declared.names.Names.{Names}
 use Rattle.log_text.specs.Told.{reply_data}
 
 -- each of a list is read as something made of what it was
@@ -110,6 +111,6 @@ saved_depth (MarksBegun marks closed begun) = omega (arith, list_depth number_da
 saved_depth (Last last) = omega (arith, list_depth writer_data 1 writer_depth last)
 saved_depth (Offer fragment) = omega (arith, list_depth txn_data 3 txn_depth fragment.txns)
 
-pub saved_is_command : (bytes : List ℕ) (given : Reply) → SaysReply bytes given → (saved : Saved) → given ≡ reply.Saved saved → NamesSessions saved → IsCommand bytes (handed_by saved)
-saved_is_command bytes given says saved same names =
-    record { utf8 = says.utf8; said = array (items_of (reply_data given)); reads = says.reads; is = inl (ap (λ (r : Reply). command_of (array (items_of (reply_data r)))) same ∙ saved_read saved names) }
+pub saved_is_command : (bytes : List ℕ) (given : Reply) → SaysReply bytes given → (saved : Saved) → given ≡ reply.Saved saved → NamesSessions saved → (names : Names) → IsCommand names bytes (handed_by saved)
+saved_is_command bytes given says saved same named names =
+    record { utf8 = says.utf8; said = array (items_of (reply_data given)); reads = says.reads; is = inl (ap (λ (r : Reply). command_of (array (items_of (reply_data r)))) same ∙ saved_read saved named) }

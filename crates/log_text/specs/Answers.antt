@@ -12,17 +12,18 @@ use Rattle.log_text.specs.Owed.{tree_list}
 use Rattle.log_text.specs.Refutations.{AreNodesOf}
 use Rattle.log_text.specs.Shown.{id_of, IsAnswer}
 use Rattle.log_text.specs.Streams.{AreRead}
+use Rattle.log_text.specs.declared.names.Names.{Names}
 
 -- the items behind the word
-abbrev pub handed_named : List ℕ → Items → Option Handed
-handed_named word parts =
-    if bytes_eq word (codes "order") then one_item handed.Order (list_of id_of) parts
-    else (if bytes_eq word (codes "refuted") then one_item handed.Nodes tree_list parts
+abbrev pub handed_named : Names → List ℕ → Items → Option Handed
+handed_named names word parts =
+    if bytes_eq word (codes "order") then one_item handed.Order (list_of (id_of names)) parts
+    else (if bytes_eq word (codes "refuted") then one_item handed.Nodes (tree_list names) parts
     else None)
 
-abbrev pub handed_in : Items → Option Handed
-handed_in (item (string word) parts) = handed_named word parts
-handed_in items = None
+abbrev pub handed_in : Names → Items → Option Handed
+handed_in names (item (string word) parts) = handed_named names word parts
+handed_in names items = None
 
 -- what is handed in shows this
 abbrev pub IsShownBy : Handed → Shown → Type 0
@@ -31,12 +32,12 @@ IsShownBy (handed.Nodes nodes) (Refuted tree) = AreNodesOf nodes tree
 IsShownBy handed shown = ⊥
 
 -- a line's items: the name "answer", and what is handed in behind it
-abbrev pub answer_named : List ℕ → Items → Option Handed
-answer_named name parts = if bytes_eq name (codes "answer") then handed_in parts else None
+abbrev pub answer_named : Names → List ℕ → Items → Option Handed
+answer_named names name parts = if bytes_eq name (codes "answer") then handed_in names parts else None
 
-abbrev pub answer_in : Items → Option Handed
-answer_in (item (string name) parts) = answer_named name parts
-answer_in items = None
+abbrev pub answer_in : Names → Items → Option Handed
+answer_in names (item (string name) parts) = answer_named names name parts
+answer_in names items = None
 
 -- What was handed in first is shown where it shows something and no token is behind it.
 abbrev pub ShowsAtEnd : Option Handed → List Token → Option Shown → Type 0
@@ -45,13 +46,13 @@ ShowsAtEnd (Some first) behind None = (behind ≢ []) ⊎ ((shown : Shown) → �
 ShowsAtEnd (Some first) behind (Some shown) = (behind ≡ []) × IsShownBy first shown
 
 -- the tokens behind a line's name hand this in, or nothing
-pub record IsAnsweredAt (tokens : List Token) (found : Option Shown) : Type 0 where
+pub record IsAnsweredAt (names : Names) (tokens : List Token) (found : Option Shown) : Type 0 where
   pub first : Option Handed
   pub behind : List Token
-  pub read : AreRead handed_in 4 tokens first behind
+  pub read : AreRead (handed_in names) 4 tokens first behind
   pub shows : ShowsAtEnd first behind found
 
 -- the text is data that hand this in, or it is none
-abbrev pub IsAnswerOf : List ℕ → Option Shown → Type 0
-IsAnswerOf text None = (said : Data) (shown : Shown) → read text ≡ Some said → ¬ IsAnswer said shown
-IsAnswerOf text (Some shown) = (said : Data) × (read text ≡ Some said) × IsAnswer said shown
+abbrev pub IsAnswerOf : Names → List ℕ → Option Shown → Type 0
+IsAnswerOf names text None = (said : Data) (shown : Shown) → read text ≡ Some said → ¬ IsAnswer names said shown
+IsAnswerOf names text (Some shown) = (said : Data) × (read text ≡ Some said) × IsAnswer names said shown

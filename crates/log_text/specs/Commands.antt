@@ -16,6 +16,7 @@ use Rattle.log_text.specs.Items.{array_of, list_of, with_both, with_three, with_
 use Rattle.log_text.specs.Numbers.{whole_number, number_within, session_of}
 use Rattle.log_text.specs.Searches.{search_in}
 use Rattle.log_text.specs.Shown.{IsAnswer}
+use Rattle.log_text.specs.declared.names.Names.{Names}
 use Rattle.log_text.specs.declared.shown.Shown.{Shown}
 use Rattle.log_text.specs.Versions.{opening_in, promise_in}
 use Rattle.log_text.specs.declared.versions.Opening.{Opening}
@@ -232,13 +233,13 @@ HasLimits (Round budget depth workers search) = IsEffort budget depth workers
 HasLimits (BeginSearch budget depth workers search) = IsEffort budget depth workers
 HasLimits command = ⊤
 
--- the data are this command: one that hands an answer in, or another one
-abbrev pub Says : Data → Command → Type 0
-Says said command = (command_of said ≡ Some command) ⊎ ((shown : Shown) × IsAnswer said shown × (command ≡ Answer shown))
+-- The data are this command, where lines name transactions by these names: one that hands an answer in, or another one.
+abbrev pub Says : Names → Data → Command → Type 0
+Says names said command = (command_of said ≡ Some command) ⊎ ((shown : Shown) × IsAnswer names said shown × (command ≡ Answer shown))
 
 -- the line is UTF-8, `serde_json` reads it as some data, and these are this command
-pub record IsCommand (line : List ℕ) (command : Command) : Type 0 where
+pub record IsCommand (names : Names) (line : List ℕ) (command : Command) : Type 0 where
   pub utf8 : IsUtf8 line
   pub said : Data
   pub reads : read line ≡ Some said
-  pub is : Says said command
+  pub is : Says names said command

@@ -7,6 +7,7 @@ pub mod Kept
 pub mod Laws
 pub mod Lines
 pub mod Lists
+pub mod Named
 pub mod Names
 pub mod Numbers
 pub mod Owed

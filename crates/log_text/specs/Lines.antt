@@ -8,6 +8,7 @@ use Rattle.log_text.specs.Commands.{start_in, close_in, finish_in, round_in, beg
 use Rattle.log_text.specs.Held.{held}
 use Rattle.log_text.specs.Answers.{IsAnsweredAt}
 use Rattle.log_text.specs.Streams.{rest_as}
+use Rattle.log_text.specs.declared.names.Names.{Names}
 use Rattle.log_text.specs.declared.shown.Shown.{Shown}
 use Rattle.log_text.specs.declared.commands.Command.{Command}
 use Rattle.log_text.specs.declared.commands.Command.TheVariants.{Begin, Skip, Truncate, Rebuild, Show, Resumed, Answer}
@@ -37,10 +38,10 @@ IsWhole {X} form tokens None = (depth turns : ℕ) → 4 ≤ depth → length to
 IsWhole form tokens (Some x) = (depth turns : ℕ) → 4 ≤ depth → length tokens ≤ turns → rest_as form depth turns tokens ≡ Some (x, [])
 
 -- behind their name the tokens hand in what the command is
-abbrev pub IsAnsweredWith : List Token → Option Command → Type 0
-IsAnsweredWith tokens found = (shown : Option Shown) × IsAnsweredAt tokens shown × (found ≡ option_map Answer shown)
+abbrev pub IsAnsweredWith : Names → List Token → Option Command → Type 0
+IsAnsweredWith names tokens found = (shown : Option Shown) × IsAnsweredAt names tokens shown × (found ≡ option_map Answer shown)
 
 -- the text is data that say a command of which this is held, or none
-abbrev pub IsTextOf : Option ℕ → List ℕ → Option Command → Type 0
-IsTextOf most text None = (said : Data) (whole : Command) → read text ≡ Some said → ¬ Says said whole
-IsTextOf most text (Some given) = (said : Data) × (whole : Command) × (read text ≡ Some said) × Says said whole × (given ≡ held most whole)
+abbrev pub IsTextOf : Names → Option ℕ → List ℕ → Option Command → Type 0
+IsTextOf names most text None = (said : Data) (whole : Command) → read text ≡ Some said → ¬ Says names said whole
+IsTextOf names most text (Some given) = (said : Data) × (whole : Command) × (read text ≡ Some said) × Says names said whole × (given ≡ held most whole)

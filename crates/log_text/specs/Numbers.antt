@@ -1,6 +1,6 @@
--- Numbers in a line.
-use Rattle.std.specs.Prelude.{ℕ, Option, Some, None, option_and_then, ◌&&◌, nat_le, if◌then◌else◌}
-use Rattle.serde_json.specs.Data.{Data, number, unsigned}
+-- Numbers and words in a line.
+use Rattle.std.specs.Prelude.{ℕ, List, Option, Some, None, option_and_then, ◌&&◌, nat_le, if◌then◌else◌}
+use Rattle.serde_json.specs.Data.{Data, number, string, unsigned}
 
 -- an unsigned whole number of 64 bits, as `serde_json` reads it: -0, 5.0 and 1e0 are none
 abbrev pub whole_number : Data → Option ℕ
@@ -18,3 +18,8 @@ number_within least most given = option_and_then (if_within least most) (whole_n
 -- the lines of a script name sessions up to 255
 abbrev pub session_of : Data → Option ℕ
 session_of = number_within 0 255
+
+-- a word
+abbrev pub word_of : Data → Option (List ℕ)
+word_of (string word) = Some word
+word_of given = None

@@ -7,6 +7,7 @@ use Rattle.log_text.specs.declared.tree_items.TreeItem.TheVariants.{Force, Split
 use Rattle.log_text.specs.Items.{array_of}
 use Rattle.log_text.specs.Refutations.{node_of}
 use Rattle.log_text.specs.Streams.{AreRead}
+use Rattle.log_text.specs.declared.names.Names.{Names}
 
 -- how many trees are owed behind an item, where so many are owed behind the tree that it begins
 abbrev pub owed_behind : ℕ → TreeItem → ℕ
@@ -21,14 +22,14 @@ are_owed zero (node ∷ nodes) = false
 are_owed (suc more) (node ∷ nodes) = are_owed (owed_behind more node) nodes
 
 -- items of trees, where none stands behind those of so many
-abbrev pub nodes_in : ℕ → Items → Option (List TreeItem)
-nodes_in owed no_items = Some []
-nodes_in zero (item given rest) = None
-nodes_in (suc more) (item given rest) = option_and_then (λ node. option_map (λ nodes. node ∷ nodes) (nodes_in (owed_behind more node) rest)) (node_of given)
+abbrev pub nodes_in : Names → ℕ → Items → Option (List TreeItem)
+nodes_in names owed no_items = Some []
+nodes_in names zero (item given rest) = None
+nodes_in names (suc more) (item given rest) = option_and_then (λ node. option_map (λ nodes. node ∷ nodes) (nodes_in names (owed_behind more node) rest)) (node_of names given)
 
-abbrev pub tree_list : Data → Option (List TreeItem)
-tree_list = array_of (nodes_in 1)
+abbrev pub tree_list : Names → Data → Option (List TreeItem)
+tree_list names = array_of (nodes_in names 1)
 
 -- Items were read up to here, and so many trees are owed: what comes of the rest is put behind these.
-pub record NodesSoFar (old : List Token) (front : List TreeItem) (owed : ℕ) (here : List Token) : Type 0 where
-  pub whole : (found : Option (List TreeItem)) (new : List Token) → AreRead (nodes_in owed) 3 here found new → AreRead (nodes_in 1) 3 old (option_map (λ nodes. front ++ nodes) found) new
+pub record NodesSoFar (names : Names) (old : List Token) (front : List TreeItem) (owed : ℕ) (here : List Token) : Type 0 where
+  pub whole : (found : Option (List TreeItem)) (new : List Token) → AreRead (nodes_in names owed) 3 here found new → AreRead (nodes_in names 1) 3 old (option_map (λ nodes. front ++ nodes) found) new

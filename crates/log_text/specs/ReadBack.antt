@@ -1,5 +1,5 @@
 -- What replies say, and what reports show, is read as it was written.
-use Rattle.std.specs.Prelude.{◌≡◌, ℕ, ◌≤◌, ⊤, List, All, Option, Some, None, IsUtf8}
+use Rattle.std.specs.Prelude.{◌≡◌, ℕ, ◌≤◌, ◌<◌, ◌^◌, ⊤, List, All, Option, Some, None, IsUtf8}
 use Rattle.serde_json.specs.Read.{read}
 use Rattle.txn.specs.declared.transactions.TxnId.{TxnId}
 use Rattle.txn.specs.declared.choices.Arc.{Arc}
@@ -9,6 +9,12 @@ use Rattle.txn.specs.declared.choices.ForceStep.{ForceStep}
 use Rattle.refutation.specs.declared.trees.Leaf.{Leaf}
 use Rattle.refutation.specs.declared.trees.Leaf.TheVariants.{Cycle, NoWrite, Gone}
 use Rattle.refutation.specs.declared.trees.Tree.{Tree, Close, Force', Split'}
+use Rattle.isolation_histories.specs.Halves.{event_at}
+use Rattle.isolation_histories.specs.Split.{star}
+use Rattle.isolation_histories.specs.declared.events.Event.{Event}
+use Rattle.isolation_histories.specs.declared.events.Event.TheVariants.{Begin, Commit}
+use Rattle.log_text.specs.declared.names.Names.{Names}
+use Rattle.log_text.specs.declared.names.Names.TheVariants.{Ids, Events}
 use Rattle.log_text.specs.declared.replies.Reply.{Reply}
 use Rattle.log_text.specs.declared.replies.Reply.TheVariants as reply
 use Rattle.log_text.specs.declared.shown.Shown.{Shown}
@@ -21,45 +27,58 @@ pub record SaysReply (text : List ℕ) (given : Reply) : Type 0 where
   pub utf8 : IsUtf8 text
   pub reads : read text ≡ Some (array_data (reply_data given))
 
--- the session is one up to 255, as lines name them
-abbrev pub IsNamed : TxnId → Type 0
-IsNamed id = id.session ≤ 255
+-- the session is one up to 255, as lines name them; where transactions are halves, their numbers are of 64 bits
+abbrev pub IsNamed : Names → TxnId → Type 0
+IsNamed Ids id = id.session ≤ 255
+IsNamed Events half = (half.session ≤ 255) × (half.number < 2 ^ 64)
 
-abbrev pub NamesInChoice : Choice → Type 0
-NamesInChoice choice = IsNamed choice.reader × IsNamed choice.writer × IsNamed choice.other
+-- a begin reads keys below 2^63, and a commit reads their stars
+abbrev pub CanRead : Event → ℕ → Type 0
+CanRead (Begin id) key = key < 2 ^ 63
+CanRead (Commit id) key = (plain : ℕ) × (plain < 2 ^ 63) × (key ≡ star plain)
 
-abbrev pub NamesInArc : Arc → Type 0
-NamesInArc (Session from to) = IsNamed from × IsNamed to
-NamesInArc (Read key from to) = IsNamed from × IsNamed to
-NamesInArc (Base key from to) = IsNamed from × IsNamed to
-NamesInArc (Taken from to) = IsNamed from × IsNamed to
+-- it is named so, and may have read the key
+abbrev pub IsReader : Names → TxnId → ℕ → Type 0
+IsReader Ids reader key = IsNamed Ids reader
+IsReader Events half key = IsNamed Events half × CanRead (event_at half) key
 
-abbrev pub NamesInStep : ForceStep → Type 0
-NamesInStep step = NamesInChoice step.choice × All NamesInArc step.cycle
+abbrev pub NamesInChoice : Names → Choice → Type 0
+NamesInChoice names choice = IsReader names choice.reader choice.key × IsNamed names choice.writer × IsNamed names choice.other
 
-abbrev pub NamesInLeaf : Leaf → Type 0
-NamesInLeaf (Cycle arcs) = All NamesInArc arcs
-NamesInLeaf (NoWrite reader key) = IsNamed reader
-NamesInLeaf (Gone reader key) = IsNamed reader
+abbrev pub NamesInArc : Names → Arc → Type 0
+NamesInArc names (Session from to) = IsNamed names from × IsNamed names to
+NamesInArc names (Read key from to) = IsNamed names from × IsReader names to key
+NamesInArc names (Base key from to) = IsReader names from key × IsNamed names to
+NamesInArc names (Taken from to) = IsNamed names from × IsNamed names to
 
--- each session that the tree names is one up to 255
-abbrev pub NamesInTree : Tree → Type 0
-NamesInTree (Close leaf) = NamesInLeaf leaf
-NamesInTree (Force' steps p rest) = All NamesInStep steps × NamesInTree rest
-NamesInTree (Split' choice p first q second) = NamesInChoice choice × NamesInTree first × NamesInTree second
+abbrev pub NamesInStep : Names → ForceStep → Type 0
+NamesInStep names step = NamesInChoice names step.choice × All (NamesInArc names) step.cycle
 
--- What is shown can be read: sessions are named up to 255, and forced steps that follow one another are one node.
-abbrev pub CanBeRead : Option Shown → Type 0
-CanBeRead None = ⊤
-CanBeRead (Some (shown.Order order)) = All IsNamed order
-CanBeRead (Some (shown.Refuted tree)) = NamesInTree tree × IsMerged tree
+abbrev pub NamesInLeaf : Names → Leaf → Type 0
+NamesInLeaf names (Cycle arcs) = All (NamesInArc names) arcs
+NamesInLeaf names (NoWrite reader key) = IsReader names reader key
+NamesInLeaf names (Gone reader key) = IsReader names reader key
 
--- a report's reply shows this, or nothing
-abbrev pub ReportsThat : Reply → Option Shown → Type 0
-ReportsThat (reply.Order round kind counts order) found = found ≡ Some (shown.Order order)
-ReportsThat (reply.Violated round counts tree) found = found ≡ Some (shown.Refuted tree)
-ReportsThat (reply.Spent round counts) found = found ≡ None
-ReportsThat reply found = ⊥
+-- each transaction that the tree names is one that has such a name, and reads what it may
+abbrev pub NamesInTree : Names → Tree → Type 0
+NamesInTree names (Close leaf) = NamesInLeaf names leaf
+NamesInTree names (Force' steps p rest) = All (NamesInStep names) steps × NamesInTree names rest
+NamesInTree names (Split' choice p first q second) = NamesInChoice names choice × NamesInTree names first × NamesInTree names second
+
+-- What is shown can be read: transactions have such names, and forced steps that follow one another are one node.
+abbrev pub CanBeRead : Names → Option Shown → Type 0
+CanBeRead names None = ⊤
+CanBeRead names (Some (shown.Order order)) = All (IsNamed names) order
+CanBeRead names (Some (shown.Refuted tree)) = NamesInTree names tree × IsMerged tree
+
+-- a report's reply shows this by these names, or nothing
+abbrev pub ReportsThat : Names → Reply → Option Shown → Type 0
+ReportsThat Ids (reply.Order round kind counts order) found = found ≡ Some (shown.Order order)
+ReportsThat Ids (reply.Violated round counts tree) found = found ≡ Some (shown.Refuted tree)
+ReportsThat Events (reply.Events round kind counts order) found = found ≡ Some (shown.Order order)
+ReportsThat Events (reply.Broken round counts tree) found = found ≡ Some (shown.Refuted tree)
+ReportsThat names (reply.Spent round counts) found = found ≡ None
+ReportsThat names reply found = ⊥
 
 -- two trees are the same, wherever their halves are kept in memory
 abbrev pub IsSameTree : Tree → Tree → Type 0

@@ -1,4 +1,4 @@
--- Trees in a line, and in a reply: the list of a tree's items.
+-- Trees in a line, and in a reply, which names transactions by either names: the list of a tree's items.
 use Rattle.std.specs.Prelude.{◌≡◌, ◌≢◌, ℕ, ⊤, List, [], ◌∷◌, ◌++◌, Option, Some, None, bytes_eq, codes, map, nat_eq, option_and_then, option_map, if◌then◌else◌}
 use Rattle.serde_json.specs.Data.{Data, string, Items, no_items, item}
 use Rattle.txn.specs.declared.transactions.TxnId.{TxnId}
@@ -12,20 +12,25 @@ use Rattle.refutation.specs.declared.trees.Leaf.TheVariants.{Cycle, NoWrite, Gon
 use Rattle.refutation.specs.declared.trees.Tree.{Tree, Close, Force', Split'}
 use Rattle.log_text.specs.declared.tree_items.TreeItem.{TreeItem}
 use Rattle.log_text.specs.declared.tree_items.TreeItem.TheVariants as node
-use Rattle.log_text.specs.Items.{array_of, list_of, with_both, with_four, one_item, three_items}
-use Rattle.log_text.specs.Numbers.{whole_number, session_of}
+use Rattle.log_text.specs.Items.{array_of, list_of, with_both, one_item, three_items}
+use Rattle.log_text.specs.Named.{half_at, id_at, key_read}
+use Rattle.log_text.specs.Numbers.{whole_number}
+use Rattle.log_text.specs.declared.names.Names.{Names}
+use Rattle.log_text.specs.declared.names.Names.TheVariants.{Ids, Events}
 
--- an id, by its session and its number
-abbrev pub id_at : Data → Data → Option TxnId
-id_at session place = with_both (λ s n. record { session = s; number = n }) (session_of session) (whole_number place)
+-- a choice: the reader, the key that it has read, the writer, the other writer
+abbrev pub choice_with : Names → Option TxnId → Option ℕ → Option TxnId → Option TxnId → Option Choice
+choice_with names (Some reader) (Some key) (Some writer) (Some other) = option_map (λ k. record { reader = reader; key = k; writer = writer; other = other }) (key_read names reader key)
+choice_with names reader key writer other = None
 
--- a choice: the reader's session and number, the key, the writer's, the other writer's
-abbrev pub choice_in : Items → Option Choice
-choice_in (item rs (item rn (item key (item ws (item wn (item os (item on no_items))))))) = with_four (λ reader k writer other. record { reader = reader; key = k; writer = writer; other = other }) (id_at rs rn) (whole_number key) (id_at ws wn) (id_at os on)
-choice_in items = None
+abbrev pub choice_in : Names → Items → Option Choice
+choice_in Ids (item rs (item rn (item key (item ws (item wn (item os (item on no_items))))))) = choice_with Ids (id_at rs rn) (whole_number key) (id_at ws wn) (id_at os on)
+choice_in Events (item rs (item rn (item rw (item key (item ws (item wn (item ww (item os (item on (item ow no_items)))))))))) =
+    choice_with Events (half_at rs rn rw) (whole_number key) (half_at ws wn ww) (half_at os on ow)
+choice_in names items = None
 
-abbrev pub choice_of : Data → Option Choice
-choice_of = array_of choice_in
+abbrev pub choice_of : Names → Data → Option Choice
+choice_of names = array_of (choice_in names)
 
 -- a side, by its number
 abbrev pub side_numbered : ℕ → Option Side
@@ -34,56 +39,70 @@ side_numbered n = if nat_eq n 1 then Some First else (if nat_eq n 2 then Some Se
 abbrev pub side_of : Data → Option Side
 side_of given = option_and_then side_numbered (whole_number given)
 
--- an arc's start and end: the session and number of each
-abbrev pub ends_in : Items → Option (TxnId × TxnId)
-ends_in (item fs (item fn (item ts (item tn no_items)))) = with_both (λ from to. (from, to)) (id_at fs fn) (id_at ts tn)
-ends_in items = None
+-- an arc's start and end
+abbrev pub ends_in : Names → Items → Option (TxnId × TxnId)
+ends_in Ids (item fs (item fn (item ts (item tn no_items)))) = with_both (λ from to. (from, to)) (id_at fs fn) (id_at ts tn)
+ends_in Events (item fs (item fn (item fw (item ts (item tn (item tw no_items)))))) = with_both (λ from to. (from, to)) (half_at fs fn fw) (half_at ts tn tw)
+ends_in names items = None
 
--- the same behind a key
-abbrev pub keyed_ends_in : Items → Option (ℕ × (TxnId × TxnId))
-keyed_ends_in (item key ends) = with_both (λ k e. (k, e)) (whole_number key) (ends_in ends)
-keyed_ends_in no_items = None
+-- the same behind a key, as it is told
+abbrev pub keyed_ends_in : Names → Items → Option (ℕ × (TxnId × TxnId))
+keyed_ends_in names (item key ends) = with_both (λ k e. (k, e)) (whole_number key) (ends_in names ends)
+keyed_ends_in names no_items = None
+
+-- the end of an arc has read the key from its start; or the start has read it as it was before everything that remains
+abbrev pub read_arc : Names → ℕ × (TxnId × TxnId) → Option Arc
+read_arc names e = option_map (λ key. Read key e.1.0 e.1.1) (key_read names e.1.1 e.0)
+
+abbrev pub base_arc : Names → ℕ × (TxnId × TxnId) → Option Arc
+base_arc names e = option_map (λ key. Base key e.1.0 e.1.1) (key_read names e.1.0 e.0)
 
 -- the arc of this word
-abbrev pub arc_named : List ℕ → Items → Option Arc
-arc_named name parts =
-    if bytes_eq name (codes "session") then option_map (λ (e : TxnId × TxnId). Session e.0 e.1) (ends_in parts)
-    else (if bytes_eq name (codes "read") then option_map (λ (e : ℕ × (TxnId × TxnId)). Read e.0 e.1.0 e.1.1) (keyed_ends_in parts)
-    else (if bytes_eq name (codes "base") then option_map (λ (e : ℕ × (TxnId × TxnId)). Base e.0 e.1.0 e.1.1) (keyed_ends_in parts)
-    else (if bytes_eq name (codes "taken") then option_map (λ (e : TxnId × TxnId). Taken e.0 e.1) (ends_in parts)
+abbrev pub arc_named : Names → List ℕ → Items → Option Arc
+arc_named names name parts =
+    if bytes_eq name (codes "session") then option_map (λ (e : TxnId × TxnId). Session e.0 e.1) (ends_in names parts)
+    else (if bytes_eq name (codes "read") then option_and_then (read_arc names) (keyed_ends_in names parts)
+    else (if bytes_eq name (codes "base") then option_and_then (base_arc names) (keyed_ends_in names parts)
+    else (if bytes_eq name (codes "taken") then option_map (λ (e : TxnId × TxnId). Taken e.0 e.1) (ends_in names parts)
     else None)))
 
-abbrev pub arc_in : Items → Option Arc
-arc_in (item (string name) parts) = arc_named name parts
-arc_in items = None
+abbrev pub arc_in : Names → Items → Option Arc
+arc_in names (item (string name) parts) = arc_named names name parts
+arc_in names items = None
 
-abbrev pub arc_of : Data → Option Arc
-arc_of = array_of arc_in
+abbrev pub arc_of : Names → Data → Option Arc
+arc_of names = array_of (arc_in names)
 
 -- a forced step: the choice, the side that is taken, and the cycle that the other one would close
-abbrev pub step_in : Items → Option ForceStep
-step_in = three_items (λ choice side cycle. record { choice = choice; side = side; cycle = cycle }) choice_of side_of (list_of arc_of)
+abbrev pub step_in : Names → Items → Option ForceStep
+step_in names = three_items (λ choice side cycle. record { choice = choice; side = side; cycle = cycle }) (choice_of names) side_of (list_of (arc_of names))
 
--- a reader's session and number, and a key
-abbrev pub reader_in : Items → Option (TxnId × ℕ)
-reader_in = three_items (λ session place key. (record { session = session; number = place }, key)) session_of whole_number whole_number
+-- a reader, and the key that it has read
+abbrev pub reader_with : Names → Option TxnId → Option ℕ → Option (TxnId × ℕ)
+reader_with names (Some reader) (Some key) = option_map (λ k. (reader, k)) (key_read names reader key)
+reader_with names reader key = None
+
+abbrev pub reader_in : Names → Items → Option (TxnId × ℕ)
+reader_in Ids (item session (item place (item key no_items))) = reader_with Ids (id_at session place) (whole_number key)
+reader_in Events (item session (item place (item word (item key no_items)))) = reader_with Events (half_at session place word) (whole_number key)
+reader_in names items = None
 
 -- the item of this word
-abbrev pub node_named : List ℕ → Items → Option TreeItem
-node_named name parts =
-    if bytes_eq name (codes "force") then option_map node.Force (step_in parts)
-    else (if bytes_eq name (codes "split") then one_item node.Split choice_of parts
-    else (if bytes_eq name (codes "cycle") then one_item (λ arcs. node.Close (Cycle arcs)) (list_of arc_of) parts
-    else (if bytes_eq name (codes "nowrite") then option_map (λ (r : TxnId × ℕ). node.Close (NoWrite r.0 r.1)) (reader_in parts)
-    else (if bytes_eq name (codes "gone") then option_map (λ (r : TxnId × ℕ). node.Close (Gone r.0 r.1)) (reader_in parts)
+abbrev pub node_named : Names → List ℕ → Items → Option TreeItem
+node_named names name parts =
+    if bytes_eq name (codes "force") then option_map node.Force (step_in names parts)
+    else (if bytes_eq name (codes "split") then one_item node.Split (choice_of names) parts
+    else (if bytes_eq name (codes "cycle") then one_item (λ arcs. node.Close (Cycle arcs)) (list_of (arc_of names)) parts
+    else (if bytes_eq name (codes "nowrite") then option_map (λ (r : TxnId × ℕ). node.Close (NoWrite r.0 r.1)) (reader_in names parts)
+    else (if bytes_eq name (codes "gone") then option_map (λ (r : TxnId × ℕ). node.Close (Gone r.0 r.1)) (reader_in names parts)
     else None))))
 
-abbrev pub node_in : Items → Option TreeItem
-node_in (item (string name) parts) = node_named name parts
-node_in items = None
+abbrev pub node_in : Names → Items → Option TreeItem
+node_in names (item (string name) parts) = node_named names name parts
+node_in names items = None
 
-abbrev pub node_of : Data → Option TreeItem
-node_of = array_of node_in
+abbrev pub node_of : Names → Data → Option TreeItem
+node_of names = array_of (node_in names)
 
 -- a tree's items: a leaf is one item, forced steps are one each before the rest's, and a split is one before both halves', the first half's
 -- first
@@ -107,6 +126,6 @@ abbrev pub AreNodesOf : List TreeItem → Tree → Type 0
 AreNodesOf nodes tree = (nodes ≡ nodes_of tree) × IsMerged tree
 
 -- the data are a list of the tree's items; the text doesn't tell how its steps were parted, and they are read as merged
-pub record IsTree (said : Data) (tree : Tree) : Type 0 where
-  pub nodes : list_of node_of said ≡ Some (nodes_of tree)
+pub record IsTree (names : Names) (said : Data) (tree : Tree) : Type 0 where
+  pub nodes : list_of (node_of names) said ≡ Some (nodes_of tree)
   pub merged : IsMerged tree

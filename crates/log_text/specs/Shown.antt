@@ -6,59 +6,57 @@ use Rattle.serde_json.specs.Read.{read}
 use Rattle.txn.specs.declared.transactions.TxnId.{TxnId}
 use Rattle.log_text.specs.declared.shown.Shown.{Shown}
 use Rattle.log_text.specs.declared.shown.Shown.TheVariants.{Order, Refuted}
-use Rattle.log_text.specs.Items.{array_of, list_of, two_items}
-use Rattle.log_text.specs.Numbers.{whole_number, session_of}
+use Rattle.log_text.specs.Items.{array_of, list_of}
+use Rattle.log_text.specs.Named.{id_in}
 use Rattle.log_text.specs.Refutations.{IsTree}
+use Rattle.log_text.specs.declared.names.Names.{Names}
 
--- an id: [session,number]
-abbrev pub id_in : Items → Option TxnId
-id_in = two_items (λ session place. record { session = session; number = place }) session_of whole_number
+-- a name: an array of its parts
+abbrev pub id_of : Names → Data → Option TxnId
+id_of names = array_of (id_in names)
 
-abbrev pub id_of : Data → Option TxnId
-id_of = array_of id_in
+-- what is given shows this by these names, behind its word: "order" and a list of names, or "refuted" and a tree
+abbrev pub Shows : Names → Data → Data → Shown → Type 0
+Shows names word given (Order order) = (word ≡ string (codes "order")) × (list_of (id_of names) given ≡ Some order)
+Shows names word given (Refuted tree) = (word ≡ string (codes "refuted")) × IsTree names given tree
 
--- what is given shows this, behind its word: "order" and [[session,number],..], or "refuted" and a tree
-abbrev pub Shows : Data → Data → Shown → Type 0
-Shows word given (Order order) = (word ≡ string (codes "order")) × (list_of id_of given ≡ Some order)
-Shows word given (Refuted tree) = (word ≡ string (codes "refuted")) × IsTree given tree
-
-abbrev pub HandsInBy : Data → Data → Data → Shown → Type 0
-HandsInBy name word given shown = (name ≡ string (codes "answer")) × Shows word given shown
+abbrev pub HandsInBy : Names → Data → Data → Data → Shown → Type 0
+HandsInBy names name word given shown = (name ≡ string (codes "answer")) × Shows names word given shown
 
 -- ["answer","order",order] or ["answer","refuted",tree]
-abbrev pub HandsIn : Items → Shown → Type 0
-HandsIn (item name (item word (item given no_items))) shown = HandsInBy name word given shown
-HandsIn items shown = ⊥
+abbrev pub HandsIn : Names → Items → Shown → Type 0
+HandsIn names (item name (item word (item given no_items))) shown = HandsInBy names name word given shown
+HandsIn names items shown = ⊥
 
-abbrev pub IsAnswer : Data → Shown → Type 0
-IsAnswer (array items) shown = HandsIn items shown
-IsAnswer said shown = ⊥
+abbrev pub IsAnswer : Names → Data → Shown → Type 0
+IsAnswer names (array items) shown = HandsIn names items shown
+IsAnswer names said shown = ⊥
 
 -- A report shows this behind its kind: an order where it is serial or pending, and a tree where it is violated.
-abbrev pub ShowsAs : Data → Data → Shown → Type 0
-ShowsAs kind given (Order order) = ((kind ≡ string (codes "serial")) ⊎ (kind ≡ string (codes "pending"))) × (list_of id_of given ≡ Some order)
-ShowsAs kind given (Refuted tree) = (kind ≡ string (codes "violated")) × IsTree given tree
+abbrev pub ShowsAs : Names → Data → Data → Shown → Type 0
+ShowsAs names kind given (Order order) = ((kind ≡ string (codes "serial")) ⊎ (kind ≡ string (codes "pending"))) × (list_of (id_of names) given ≡ Some order)
+ShowsAs names kind given (Refuted tree) = (kind ≡ string (codes "violated")) × IsTree names given tree
 
-abbrev pub ReportsBy : Data → Data → Data → Shown → Type 0
-ReportsBy name kind given shown = (name ≡ string (codes "report")) × ShowsAs kind given shown
+abbrev pub ReportsBy : Names → Data → Data → Data → Shown → Type 0
+ReportsBy names name kind given shown = (name ≡ string (codes "report")) × ShowsAs names kind given shown
 
 -- ["report",round,kind,counts,order] or ["report",round,"violated",counts,tree]; round and counts may be anything
-abbrev pub Reports : Items → Shown → Type 0
-Reports (item name (item round (item kind (item counts (item given no_items))))) shown = ReportsBy name kind given shown
-Reports items shown = ⊥
+abbrev pub Reports : Names → Items → Shown → Type 0
+Reports names (item name (item round (item kind (item counts (item given no_items))))) shown = ReportsBy names name kind given shown
+Reports names items shown = ⊥
 
-abbrev pub IsReportOf : Data → Shown → Type 0
-IsReportOf (array items) shown = Reports items shown
-IsReportOf said shown = ⊥
+abbrev pub IsReportOf : Names → Data → Shown → Type 0
+IsReportOf names (array items) shown = Reports names items shown
+IsReportOf names said shown = ⊥
 
--- The text is UTF-8, `serde_json` reads it as some data, and these are a report that shows this.
-pub record ShowsIn (text : List ℕ) (shown : Shown) : Type 0 where
+-- The text is UTF-8, `serde_json` reads it as some data, and these are a report that shows this by these names.
+pub record ShowsIn (names : Names) (text : List ℕ) (shown : Shown) : Type 0 where
   pub utf8 : IsUtf8 text
   pub said : Data
   pub reads : read text ≡ Some said
-  pub is : IsReportOf said shown
+  pub is : IsReportOf names said shown
 
 -- what the text shows, or that it shows nothing
-abbrev pub IsShownIn : List ℕ → Option Shown → Type 0
-IsShownIn text None = (shown : Shown) → ¬ ShowsIn text shown
-IsShownIn text (Some shown) = ShowsIn text shown
+abbrev pub IsShownIn : Names → List ℕ → Option Shown → Type 0
+IsShownIn names text None = (shown : Shown) → ¬ ShowsIn names text shown
+IsShownIn names text (Some shown) = ShowsIn names text shown

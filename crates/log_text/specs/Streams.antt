@@ -42,11 +42,6 @@ abbrev pub opens_array : List Token → Option (List Token)
 opens_array (Token.begin_array ∷ more) = Some more
 opens_array tokens = None
 
--- a word
-abbrev pub word_of : Data → Option (List ℕ)
-word_of (string word) = Some word
-word_of given = None
-
 -- a word, or an unsigned whole number of 64 bits
 abbrev pub is_atom : Data → Bool
 is_atom (string word) = true

@@ -4,14 +4,16 @@ ghost use Rattle.log_text.specs.Answers.{handed_named, handed_in, IsShownBy, IsA
 ghost use Rattle.log_text.specs.Items.{each_of, list_of, one_item};
 ghost use Rattle.log_text.specs.Owed.{tree_list};
 ghost use Rattle.log_text.specs.Refutations.{AreNodesOf};
-ghost use Rattle.log_text.specs.Shown.{id_in, id_of};
+ghost use Rattle.log_text.specs.Shown.{id_of};
 ghost use Rattle.log_text.specs.Streams.{IsRead, AreRead};
 ghost use Rattle.log_text.specs.declared.answers.Handed.TheVariants as handed;
 ghost use Rattle.log_text.specs.declared.shown.Shown.{Shown};
 
 use crate::building::tree_of_items;
+use crate::named::read_id_parts;
+use crate::names::Names;
 use crate::shown::Shown;
-use crate::streams::{number, session, takes_array, word};
+use crate::streams::{takes_array, word};
 use crate::tree_items::TreeItem;
 use crate::tree_tokens::read_nodes;
 use json::Reader;
@@ -25,40 +27,27 @@ pub(crate) enum Handed {
     Nodes(Sequence<TreeItem>),
 }
 
-/// Both parts of an id, whose bracket was opened.
-fn read_id_parts(reader: &mut Reader<'_>) -> Option<TxnId>
-    ensures { AreRead id_in 0 reader.old result reader.new }
-{
-    let Some(session) = session(reader) else {
-        return None;
-    };
-    let Some(number) = number(reader) else {
-        return None;
-    };
-    if reader.take_end_array() {
-        Some(TxnId { session, number })
-    } else {
-        None
-    }
-}
-
-fn read_id(reader: &mut Reader<'_>) -> Option<TxnId>
-    ensures { IsRead id_of 1 reader.old result reader.new }
+fn read_id(names: Names, reader: &mut Reader<'_>) -> Option<TxnId>
+    ensures { IsRead (id_of names) 1 reader.old result reader.new }
 {
     if takes_array(reader) {
-        read_id_parts(reader)
+        read_id_parts(names, reader)
     } else {
         None
     }
 }
 
 /// Ids up to the end of an array.
-fn rest_of_ids(alloc: Global, reader: &mut Reader<'_>) -> Result<Option<Sequence<TxnId>>, NoMemory>
-    ensures { IfOk result (λ order. AreRead (each_of id_of) 1 reader.old order reader.new) }
+fn rest_of_ids(
+    alloc: Global,
+    names: Names,
+    reader: &mut Reader<'_>,
+) -> Result<Option<Sequence<TxnId>>, NoMemory>
+    ensures { IfOk result (λ order. AreRead (each_of (id_of names)) 1 reader.old order reader.new) }
 {
     let mut order = Vec::new(alloc);
     while !reader.take_end_array() {
-        match read_id(reader) {
+        match read_id(names, reader) {
             Some(id) => order.push(id)?,
             None => return Ok(None),
         }
@@ -67,20 +56,28 @@ fn rest_of_ids(alloc: Global, reader: &mut Reader<'_>) -> Result<Option<Sequence
     Ok(Some(Sequence::new(order)))
 }
 
-fn read_order(alloc: Global, reader: &mut Reader<'_>) -> Result<Option<Sequence<TxnId>>, NoMemory>
-    ensures { IfOk result (λ order. IsRead (list_of id_of) 2 reader.old order reader.new) }
+fn read_order(
+    alloc: Global,
+    names: Names,
+    reader: &mut Reader<'_>,
+) -> Result<Option<Sequence<TxnId>>, NoMemory>
+    ensures { IfOk result (λ order. IsRead (list_of (id_of names)) 2 reader.old order reader.new) }
 {
     if takes_array(reader) {
-        rest_of_ids(alloc, reader)
+        rest_of_ids(alloc, names, reader)
     } else {
         Ok(None)
     }
 }
 
-fn order_handed(alloc: Global, reader: &mut Reader<'_>) -> Result<Option<Handed>, NoMemory>
-    ensures { IfOk result (λ found. AreRead (one_item handed.Order (list_of id_of)) 4 reader.old found reader.new) }
+fn order_handed(
+    alloc: Global,
+    names: Names,
+    reader: &mut Reader<'_>,
+) -> Result<Option<Handed>, NoMemory>
+    ensures { IfOk result (λ found. AreRead (one_item handed.Order (list_of (id_of names))) 4 reader.old found reader.new) }
 {
-    let Some(order) = read_order(alloc, reader)? else {
+    let Some(order) = read_order(alloc, names, reader)? else {
         return Ok(None);
     };
     if reader.take_end_array() {
@@ -90,10 +87,14 @@ fn order_handed(alloc: Global, reader: &mut Reader<'_>) -> Result<Option<Handed>
     }
 }
 
-fn nodes_handed(alloc: Global, reader: &mut Reader<'_>) -> Result<Option<Handed>, NoMemory>
-    ensures { IfOk result (λ found. AreRead (one_item handed.Nodes tree_list) 4 reader.old found reader.new) }
+fn nodes_handed(
+    alloc: Global,
+    names: Names,
+    reader: &mut Reader<'_>,
+) -> Result<Option<Handed>, NoMemory>
+    ensures { IfOk result (λ found. AreRead (one_item handed.Nodes (tree_list names)) 4 reader.old found reader.new) }
 {
-    let Some(nodes) = read_nodes(alloc, reader)? else {
+    let Some(nodes) = read_nodes(alloc, names, reader)? else {
         return Ok(None);
     };
     if reader.take_end_array() {
@@ -105,23 +106,28 @@ fn nodes_handed(alloc: Global, reader: &mut Reader<'_>) -> Result<Option<Handed>
 
 fn handed_named(
     alloc: Global,
+    names: Names,
     word: &str,
     reader: &mut Reader<'_>,
 ) -> Result<Option<Handed>, NoMemory>
-    ensures { IfOk result (λ found. AreRead (handed_named word.now) 4 reader.old found reader.new) }
+    ensures { IfOk result (λ found. AreRead (handed_named names word.now) 4 reader.old found reader.new) }
 {
     match word {
-        "order" => order_handed(alloc, reader),
-        "refuted" => nodes_handed(alloc, reader),
+        "order" => order_handed(alloc, names, reader),
+        "refuted" => nodes_handed(alloc, names, reader),
         _ => Ok(None),
     }
 }
 
-fn handed_in(alloc: Global, reader: &mut Reader<'_>) -> Result<Option<Handed>, NoMemory>
-    ensures { IfOk result (λ found. AreRead handed_in 4 reader.old found reader.new) }
+fn handed_in(
+    alloc: Global,
+    names: Names,
+    reader: &mut Reader<'_>,
+) -> Result<Option<Handed>, NoMemory>
+    ensures { IfOk result (λ found. AreRead (handed_in names) 4 reader.old found reader.new) }
 {
     match word(reader) {
-        Some(word) => handed_named(alloc, word, reader),
+        Some(word) => handed_named(alloc, names, word, reader),
         None => Ok(None),
     }
 }
@@ -139,10 +145,14 @@ fn shown_by(alloc: Global, handed: Handed) -> Result<Option<Shown>, NoMemory>
 }
 
 /// What a line hands in, from behind its name to its end.
-pub(crate) fn read_answer(alloc: Global, reader: &mut Reader<'_>) -> Result<Option<Shown>, NoMemory>
-    ensures { IfOk result (λ found. IsAnsweredAt reader.old found) }
+pub(crate) fn read_answer(
+    alloc: Global,
+    names: Names,
+    reader: &mut Reader<'_>,
+) -> Result<Option<Shown>, NoMemory>
+    ensures { IfOk result (λ found. IsAnsweredAt names reader.old found) }
 {
-    let Some(handed) = handed_in(alloc, reader)? else {
+    let Some(handed) = handed_in(alloc, names, reader)? else {
         return Ok(None);
     };
     match reader.next() {

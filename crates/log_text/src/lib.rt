@@ -9,6 +9,7 @@ mod handed;
 mod laws;
 mod lines;
 mod lists;
+mod named;
 mod names;
 mod numbers;
 mod offers;

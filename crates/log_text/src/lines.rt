@@ -10,6 +10,7 @@ use crate::answers::read_answer;
 use crate::commands::{Command, plain_named};
 use crate::fragments::joined;
 use crate::handed::{flags, writers};
+use crate::names::Names;
 use crate::offers::offer;
 use crate::streams::{atoms, numbers, takes_array, word};
 use json::{Reader, Scratch};
@@ -117,11 +118,15 @@ fn named(
 }
 
 /// The command that hands in what stands behind its name, up to the end.
-fn answered(alloc: Global, reader: &mut Reader<'_>) -> Result<Option<Command>, NoMemory>
-    ensures form { IfOk result (IsAnsweredWith reader.old) }
+fn answered(
+    alloc: Global,
+    names: Names,
+    reader: &mut Reader<'_>,
+) -> Result<Option<Command>, NoMemory>
+    ensures form { IfOk result (IsAnsweredWith names reader.old) }
     ensures limits { IfOk result (λ command. IfSome command HasLimits) }
 {
-    match read_answer(alloc, reader)? {
+    match read_answer(alloc, names, reader)? {
         Some(shown) => Ok(Some(Command::Answer(shown))),
         None => Ok(None),
     }
@@ -147,8 +152,13 @@ fn whole_command(
 }
 
 /// The same of a text, and of an answer too.
-fn text_within(alloc: Global, text: &str, most: Option<usize>) -> Result<Option<Command>, NoMemory>
-    ensures form { IfOk result (λ command. IsTextOf most text.now command) }
+fn text_within(
+    alloc: Global,
+    names: Names,
+    text: &str,
+    most: Option<usize>,
+) -> Result<Option<Command>, NoMemory>
+    ensures form { IfOk result (λ command. IsTextOf names most text.now command) }
     ensures limits { IfOk result (λ command. IfSome command HasLimits) }
 {
     let mut scratch = Scratch::new(alloc);
@@ -157,7 +167,7 @@ fn text_within(alloc: Global, text: &str, most: Option<usize>) -> Result<Option<
         return Ok(None);
     }
     match word(&mut reader) {
-        Some("answer") => answered(alloc, &mut reader),
+        Some("answer") => answered(alloc, names, &mut reader),
         Some(name) => whole_command(alloc, &mut reader, name, most),
         None => Ok(None),
     }
@@ -165,29 +175,34 @@ fn text_within(alloc: Global, text: &str, most: Option<usize>) -> Result<Option<
 
 /// What is kept of the command that a line is, as `read_line` reads it: of an offer or a join the first so many transactions and every
 /// flag. What isn't kept is read all the same, and let go at once. NoMemory comes as there.
-pub fn read_line_within(alloc: Global, line: &[u8], most: Option<usize>) -> Result<Command, Refusal>
-    ensures ok { IfOk result (λ given. (whole : Command) × IsCommand line.now whole × (given ≡ held most whole)) }
+pub fn read_line_within(
+    alloc: Global,
+    names: Names,
+    line: &[u8],
+    most: Option<usize>,
+) -> Result<Command, Refusal>
+    ensures ok { IfOk result (λ given. (whole : Command) × IsCommand names line.now whole × (given ≡ held most whole)) }
     ensures limits { IfOk result HasLimits }
     ensures err { IfErr result (λ refusal. ((refusal ≡ Refusal.NoMemory) × IsUtf8 line.now)
-        ⊎ ((refusal ≡ Refusal.BadLine) × ((command : Command) → ¬ IsCommand line.now command))) }
+        ⊎ ((refusal ≡ Refusal.BadLine) × ((command : Command) → ¬ IsCommand names line.now command))) }
 {
     let Ok(text) = std::str::from_utf8(line) else {
         return Err(Refusal::BadLine);
     };
-    match text_within(alloc, text, most) {
+    match text_within(alloc, names, text, most) {
         Ok(Some(command)) => Ok(command),
         Ok(None) => Err(Refusal::BadLine),
         Err(_) => Err(Refusal::NoMemory),
     }
 }
 
-/// The command that a line is, without its line feed; BadLine where it is none. NoMemory may take the place of either where the
+/// The command that a line is, without its line feed, where lines name transactions by these names; BadLine where it is none. NoMemory may take the place of either where the
 /// line is UTF-8: it is answered where room for the line's text once more, or for what is read of it, is refused, which no clause says.
-pub fn read_line(alloc: Global, line: &[u8]) -> Result<Command, Refusal>
-    ensures ok { IfOk result (IsCommand line.now) }
+pub fn read_line(alloc: Global, names: Names, line: &[u8]) -> Result<Command, Refusal>
+    ensures ok { IfOk result (IsCommand names line.now) }
     ensures limits { IfOk result HasLimits }
     ensures err { IfErr result (λ refusal. ((refusal ≡ Refusal.NoMemory) × IsUtf8 line.now)
-        ⊎ ((refusal ≡ Refusal.BadLine) × ((command : Command) → ¬ IsCommand line.now command))) }
+        ⊎ ((refusal ≡ Refusal.BadLine) × ((command : Command) → ¬ IsCommand names line.now command))) }
 {
-    read_line_within(alloc, line, None)
+    read_line_within(alloc, names, line, None)
 }

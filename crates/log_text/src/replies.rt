@@ -4,6 +4,7 @@ ghost use Rattle.log_text.specs.Commands.{IsCommand};
 ghost use Rattle.log_text.specs.ReadBack.{CanBeRead, ReportsThat, SaysReply};
 ghost use Rattle.log_text.specs.Saved.{GainsData, NamesSessions, handed_by};
 ghost use Rattle.log_text.specs.Shown.{IsShownIn};
+ghost use Rattle.log_text.specs.declared.names.Names.{Names};
 ghost use Rattle.log_text.specs.declared.shown.Shown.{Shown};
 ghost use Rattle.log_text.specs.Told.{IsReply, reply_data, report_data};
 
@@ -13,6 +14,7 @@ use crate::lists::{
 use crate::names::{Names, push_events};
 use crate::saved::{Saved, push_saved};
 use crate::trees::push_tree;
+use isolation_histories::stars_are_of_keys;
 use order_check::Kind;
 use refutation::Tree;
 use serde_json::Value;
@@ -256,9 +258,11 @@ fn value_of(alloc: Global, reply: &Reply) -> Result<Value, NoMemory>
 fn reply_bytes(alloc: Global, reply: &Reply) -> Result<Vec<u8>, NoMemory>
     ensures text { IfOk result (λ bytes. bytes.items ≡ text_of reply.now) }
     ensures says { IfOk result (λ bytes. SaysReply bytes.items reply.now) }
-    ensures reads_back { IfOk result (λ bytes. (saved : Saved) → reply.now ≡ Reply.Saved saved → NamesSessions saved → IsCommand bytes.items (handed_by saved)) }
-    ensures report_reads_back { IfOk result (λ bytes. HasKindOfOrder reply.now → (found : Option Shown) → ReportsThat reply.now found → CanBeRead found → IsShownIn bytes.items found) }
+    ensures reads_back { IfOk result (λ bytes. (saved : Saved) → reply.now ≡ Reply.Saved saved → NamesSessions saved → (names : Names) → IsCommand names bytes.items (handed_by saved)) }
+    ensures report_reads_back { IfOk result (λ bytes. HasKindOfOrder reply.now → (names : Names) → (found : Option Shown) → ReportsThat names reply.now found → CanBeRead names found → IsShownIn names bytes.items found) }
 {
+    // A law that the proof cites. It does nothing when it runs.
+    stars_are_of_keys();
     let value = value_of(alloc, reply)?;
     let bytes = value.to_vec(alloc)?;
     Ok(bytes)
@@ -270,8 +274,8 @@ pub fn write_reply(alloc: Global, reply: &Reply) -> Result<Vec<u8>, NoMemory>
     requires { HasKindOfOrder reply.now }
     ensures line { IfOk result (λ bytes. bytes.items ≡ line_of reply.now) }
     ensures says { IfOk result (λ bytes. SaysReply (text_of reply.now) reply.now) }
-    ensures reads_back { IfOk result (λ bytes. (saved : Saved) → reply.now ≡ Reply.Saved saved → NamesSessions saved → IsCommand (text_of reply.now) (handed_by saved)) }
-    ensures report_reads_back { IfOk result (λ bytes. (found : Option Shown) → ReportsThat reply.now found → CanBeRead found → IsShownIn (text_of reply.now) found) }
+    ensures reads_back { IfOk result (λ bytes. (saved : Saved) → reply.now ≡ Reply.Saved saved → NamesSessions saved → (names : Names) → IsCommand names (text_of reply.now) (handed_by saved)) }
+    ensures report_reads_back { IfOk result (λ bytes. (names : Names) → (found : Option Shown) → ReportsThat names reply.now found → CanBeRead names found → IsShownIn names (text_of reply.now) found) }
 {
     let mut bytes = reply_bytes(alloc, reply)?;
     bytes.push(b'\n')?;

@@ -6,8 +6,8 @@ ghost use Rattle.json.specs.Reads.{token_of};
 ghost use Rattle.json.specs.Token as spec;
 ghost use Rattle.serde_json.specs.View.{view, items_view};
 ghost use Rattle.log_text.specs.Items.{array_of, each_of, list_of};
-ghost use Rattle.log_text.specs.Numbers.{whole_number, session_of};
-ghost use Rattle.log_text.specs.Streams.{IsRead, AreRead, opens_array, data_at, whole_in, whole_of, word_of, atom_of, few_in};
+ghost use Rattle.log_text.specs.Numbers.{whole_number, session_of, word_of};
+ghost use Rattle.log_text.specs.Streams.{IsRead, AreRead, opens_array, data_at, whole_in, whole_of, atom_of, few_in};
 
 use fast_float::Numeral;
 use json::{Reader, Token};

@@ -7,6 +7,7 @@ ghost use Rattle.log_text.specs.Streams.{IsRead, AreRead};
 ghost use Rattle.log_text.specs.declared.tree_items.TreeItem.TheVariants as node;
 ghost use Rattle.refutation.specs.declared.trees.Leaf.TheVariants as leaf;
 
+use crate::names::Names;
 use crate::streams::{atoms, few, number, takes_array, word};
 use crate::tree_items::{TreeItem, arc_in, choice_in, reader_in, side_numbered};
 use json::Reader;
@@ -14,11 +15,22 @@ use refutation::Leaf;
 use std::alloc::Global;
 use txn::{Arc, Choice, ForceStep, NoMemory, Sequence, Side, TxnId};
 
-fn read_choice(alloc: Global, reader: &mut Reader<'_>) -> Result<Option<Choice>, NoMemory>
-    ensures { IfOk result (λ choice. IsRead choice_of 1 reader.old choice reader.new) }
+/// A choice has no more parts, by either names, nor does an arc, or a reader with its key.
+const MOST_IN_CHOICE: usize = 10;
+
+const MOST_IN_ARC: usize = 8;
+
+const MOST_IN_READER: usize = 4;
+
+fn read_choice(
+    alloc: Global,
+    names: Names,
+    reader: &mut Reader<'_>,
+) -> Result<Option<Choice>, NoMemory>
+    ensures { IfOk result (λ choice. IsRead (choice_of names) 1 reader.old choice reader.new) }
 {
-    match few(alloc, reader, 7)? {
-        Some(values) => Ok(choice_in(values.as_slice())),
+    match few(alloc, reader, MOST_IN_CHOICE)? {
+        Some(values) => Ok(choice_in(names, values.as_slice())),
         None => Ok(None),
     }
 }
@@ -29,22 +41,26 @@ fn read_side(reader: &mut Reader<'_>) -> Option<Side>
     side_numbered(number(reader)?)
 }
 
-fn read_arc(alloc: Global, reader: &mut Reader<'_>) -> Result<Option<Arc>, NoMemory>
-    ensures { IfOk result (λ arc. IsRead arc_of 1 reader.old arc reader.new) }
+fn read_arc(alloc: Global, names: Names, reader: &mut Reader<'_>) -> Result<Option<Arc>, NoMemory>
+    ensures { IfOk result (λ arc. IsRead (arc_of names) 1 reader.old arc reader.new) }
 {
-    match few(alloc, reader, 6)? {
-        Some(values) => Ok(arc_in(values.as_slice())),
+    match few(alloc, reader, MOST_IN_ARC)? {
+        Some(values) => Ok(arc_in(names, values.as_slice())),
         None => Ok(None),
     }
 }
 
 /// Arcs up to the end of an array.
-fn rest_of_arcs(alloc: Global, reader: &mut Reader<'_>) -> Result<Option<Sequence<Arc>>, NoMemory>
-    ensures { IfOk result (λ arcs. AreRead (each_of arc_of) 1 reader.old arcs reader.new) }
+fn rest_of_arcs(
+    alloc: Global,
+    names: Names,
+    reader: &mut Reader<'_>,
+) -> Result<Option<Sequence<Arc>>, NoMemory>
+    ensures { IfOk result (λ arcs. AreRead (each_of (arc_of names)) 1 reader.old arcs reader.new) }
 {
     let mut arcs = Vec::new(alloc);
     while !reader.take_end_array() {
-        match read_arc(alloc, reader)? {
+        match read_arc(alloc, names, reader)? {
             Some(arc) => arcs.push(arc)?,
             None => return Ok(None),
         }
@@ -53,27 +69,35 @@ fn rest_of_arcs(alloc: Global, reader: &mut Reader<'_>) -> Result<Option<Sequenc
     Ok(Some(Sequence::new(arcs)))
 }
 
-fn read_cycle(alloc: Global, reader: &mut Reader<'_>) -> Result<Option<Sequence<Arc>>, NoMemory>
-    ensures { IfOk result (λ arcs. IsRead (list_of arc_of) 2 reader.old arcs reader.new) }
+fn read_cycle(
+    alloc: Global,
+    names: Names,
+    reader: &mut Reader<'_>,
+) -> Result<Option<Sequence<Arc>>, NoMemory>
+    ensures { IfOk result (λ arcs. IsRead (list_of (arc_of names)) 2 reader.old arcs reader.new) }
 {
     if takes_array(reader) {
-        rest_of_arcs(alloc, reader)
+        rest_of_arcs(alloc, names, reader)
     } else {
         Ok(None)
     }
 }
 
 /// The parts of a forced step, up to the bracket that closes it.
-fn read_step(alloc: Global, reader: &mut Reader<'_>) -> Result<Option<ForceStep>, NoMemory>
-    ensures { IfOk result (λ step. AreRead step_in 2 reader.old step reader.new) }
+fn read_step(
+    alloc: Global,
+    names: Names,
+    reader: &mut Reader<'_>,
+) -> Result<Option<ForceStep>, NoMemory>
+    ensures { IfOk result (λ step. AreRead (step_in names) 2 reader.old step reader.new) }
 {
-    let Some(choice) = read_choice(alloc, reader)? else {
+    let Some(choice) = read_choice(alloc, names, reader)? else {
         return Ok(None);
     };
     let Some(side) = read_side(reader) else {
         return Ok(None);
     };
-    let Some(cycle) = read_cycle(alloc, reader)? else {
+    let Some(cycle) = read_cycle(alloc, names, reader)? else {
         return Ok(None);
     };
     if reader.take_end_array() {
@@ -87,19 +111,27 @@ fn read_step(alloc: Global, reader: &mut Reader<'_>) -> Result<Option<ForceStep>
     }
 }
 
-fn read_force(alloc: Global, reader: &mut Reader<'_>) -> Result<Option<TreeItem>, NoMemory>
-    ensures { IfOk result (λ found. AreRead (λ parts. option_map node.Force (step_in parts)) 2 reader.old found reader.new) }
+fn read_force(
+    alloc: Global,
+    names: Names,
+    reader: &mut Reader<'_>,
+) -> Result<Option<TreeItem>, NoMemory>
+    ensures { IfOk result (λ found. AreRead (λ parts. option_map node.Force (step_in names parts)) 2 reader.old found reader.new) }
 {
-    match read_step(alloc, reader)? {
+    match read_step(alloc, names, reader)? {
         Some(step) => Ok(Some(TreeItem::Force(step))),
         None => Ok(None),
     }
 }
 
-fn read_split(alloc: Global, reader: &mut Reader<'_>) -> Result<Option<TreeItem>, NoMemory>
-    ensures { IfOk result (λ found. AreRead (one_item node.Split choice_of) 2 reader.old found reader.new) }
+fn read_split(
+    alloc: Global,
+    names: Names,
+    reader: &mut Reader<'_>,
+) -> Result<Option<TreeItem>, NoMemory>
+    ensures { IfOk result (λ found. AreRead (one_item node.Split (choice_of names)) 2 reader.old found reader.new) }
 {
-    let Some(choice) = read_choice(alloc, reader)? else {
+    let Some(choice) = read_choice(alloc, names, reader)? else {
         return Ok(None);
     };
     if reader.take_end_array() {
@@ -109,10 +141,14 @@ fn read_split(alloc: Global, reader: &mut Reader<'_>) -> Result<Option<TreeItem>
     }
 }
 
-fn read_cycle_leaf(alloc: Global, reader: &mut Reader<'_>) -> Result<Option<TreeItem>, NoMemory>
-    ensures { IfOk result (λ found. AreRead (one_item (λ arcs. node.Close (leaf.Cycle arcs)) (list_of arc_of)) 2 reader.old found reader.new) }
+fn read_cycle_leaf(
+    alloc: Global,
+    names: Names,
+    reader: &mut Reader<'_>,
+) -> Result<Option<TreeItem>, NoMemory>
+    ensures { IfOk result (λ found. AreRead (one_item (λ arcs. node.Close (leaf.Cycle arcs)) (list_of (arc_of names))) 2 reader.old found reader.new) }
 {
-    let Some(arcs) = read_cycle(alloc, reader)? else {
+    let Some(arcs) = read_cycle(alloc, names, reader)? else {
         return Ok(None);
     };
     if reader.take_end_array() {
@@ -123,28 +159,40 @@ fn read_cycle_leaf(alloc: Global, reader: &mut Reader<'_>) -> Result<Option<Tree
 }
 
 /// A reader and its key, up to the bracket that closes their leaf.
-fn read_reader(alloc: Global, reader: &mut Reader<'_>) -> Result<Option<(TxnId, u64)>, NoMemory>
-    ensures { IfOk result (λ found. AreRead reader_in 2 reader.old found reader.new) }
+fn read_reader(
+    alloc: Global,
+    names: Names,
+    reader: &mut Reader<'_>,
+) -> Result<Option<(TxnId, u64)>, NoMemory>
+    ensures { IfOk result (λ found. AreRead (reader_in names) 2 reader.old found reader.new) }
 {
-    match atoms(alloc, reader, 3)? {
-        Some(values) => Ok(reader_in(values.as_slice())),
+    match atoms(alloc, reader, MOST_IN_READER)? {
+        Some(values) => Ok(reader_in(names, values.as_slice())),
         None => Ok(None),
     }
 }
 
-fn read_no_write(alloc: Global, reader: &mut Reader<'_>) -> Result<Option<TreeItem>, NoMemory>
-    ensures { IfOk result (λ found. AreRead (λ parts. option_map (λ r. node.Close (leaf.NoWrite r.0 r.1)) (reader_in parts)) 2 reader.old found reader.new) }
+fn read_no_write(
+    alloc: Global,
+    names: Names,
+    reader: &mut Reader<'_>,
+) -> Result<Option<TreeItem>, NoMemory>
+    ensures { IfOk result (λ found. AreRead (λ parts. option_map (λ r. node.Close (leaf.NoWrite r.0 r.1)) (reader_in names parts)) 2 reader.old found reader.new) }
 {
-    match read_reader(alloc, reader)? {
+    match read_reader(alloc, names, reader)? {
         Some((reader, key)) => Ok(Some(TreeItem::Close(Leaf::NoWrite(reader, key)))),
         None => Ok(None),
     }
 }
 
-fn read_gone(alloc: Global, reader: &mut Reader<'_>) -> Result<Option<TreeItem>, NoMemory>
-    ensures { IfOk result (λ found. AreRead (λ parts. option_map (λ r. node.Close (leaf.Gone r.0 r.1)) (reader_in parts)) 2 reader.old found reader.new) }
+fn read_gone(
+    alloc: Global,
+    names: Names,
+    reader: &mut Reader<'_>,
+) -> Result<Option<TreeItem>, NoMemory>
+    ensures { IfOk result (λ found. AreRead (λ parts. option_map (λ r. node.Close (leaf.Gone r.0 r.1)) (reader_in names parts)) 2 reader.old found reader.new) }
 {
-    match read_reader(alloc, reader)? {
+    match read_reader(alloc, names, reader)? {
         Some((reader, key)) => Ok(Some(TreeItem::Close(Leaf::Gone(reader, key)))),
         None => Ok(None),
     }
@@ -152,36 +200,45 @@ fn read_gone(alloc: Global, reader: &mut Reader<'_>) -> Result<Option<TreeItem>,
 
 fn read_named(
     alloc: Global,
+    names: Names,
     name: &str,
     reader: &mut Reader<'_>,
 ) -> Result<Option<TreeItem>, NoMemory>
-    ensures { IfOk result (λ found. AreRead (node_named name.now) 2 reader.old found reader.new) }
+    ensures { IfOk result (λ found. AreRead (node_named names name.now) 2 reader.old found reader.new) }
 {
     match name {
-        "force" => read_force(alloc, reader),
-        "split" => read_split(alloc, reader),
-        "cycle" => read_cycle_leaf(alloc, reader),
-        "nowrite" => read_no_write(alloc, reader),
-        "gone" => read_gone(alloc, reader),
+        "force" => read_force(alloc, names, reader),
+        "split" => read_split(alloc, names, reader),
+        "cycle" => read_cycle_leaf(alloc, names, reader),
+        "nowrite" => read_no_write(alloc, names, reader),
+        "gone" => read_gone(alloc, names, reader),
         _ => Ok(None),
     }
 }
 
 /// An item's word and parts, whose bracket was opened.
-fn read_node_parts(alloc: Global, reader: &mut Reader<'_>) -> Result<Option<TreeItem>, NoMemory>
-    ensures { IfOk result (λ found. AreRead node_in 2 reader.old found reader.new) }
+fn read_node_parts(
+    alloc: Global,
+    names: Names,
+    reader: &mut Reader<'_>,
+) -> Result<Option<TreeItem>, NoMemory>
+    ensures { IfOk result (λ found. AreRead (node_in names) 2 reader.old found reader.new) }
 {
     match word(reader) {
-        Some(name) => read_named(alloc, name, reader),
+        Some(name) => read_named(alloc, names, name, reader),
         None => Ok(None),
     }
 }
 
-fn read_node(alloc: Global, reader: &mut Reader<'_>) -> Result<Option<TreeItem>, NoMemory>
-    ensures { IfOk result (λ found. IsRead node_of 3 reader.old found reader.new) }
+fn read_node(
+    alloc: Global,
+    names: Names,
+    reader: &mut Reader<'_>,
+) -> Result<Option<TreeItem>, NoMemory>
+    ensures { IfOk result (λ found. IsRead (node_of names) 3 reader.old found reader.new) }
 {
     if takes_array(reader) {
-        read_node_parts(alloc, reader)
+        read_node_parts(alloc, names, reader)
     } else {
         Ok(None)
     }
@@ -202,9 +259,10 @@ fn owed_behind(owed: usize, node: &TreeItem) -> usize
 /// The items of a tree up to the end of an array: where its last one was read, no other is.
 fn rest_of_nodes(
     alloc: Global,
+    names: Names,
     reader: &mut Reader<'_>,
 ) -> Result<Option<Sequence<TreeItem>>, NoMemory>
-    ensures { IfOk result (λ nodes. AreRead (nodes_in 1) 3 reader.old nodes reader.new) }
+    ensures { IfOk result (λ nodes. AreRead (nodes_in names 1) 3 reader.old nodes reader.new) }
 {
     let mut nodes = Vec::new(alloc);
     let mut owed = 1;
@@ -212,7 +270,7 @@ fn rest_of_nodes(
         if owed == 0 {
             return Ok(None);
         }
-        match read_node(alloc, reader)? {
+        match read_node(alloc, names, reader)? {
             Some(node) => {
                 owed = owed_behind(owed, &node);
                 nodes.push(node)?;
@@ -227,12 +285,13 @@ fn rest_of_nodes(
 /// The items of a list, where they may be those of one tree.
 pub(crate) fn read_nodes(
     alloc: Global,
+    names: Names,
     reader: &mut Reader<'_>,
 ) -> Result<Option<Sequence<TreeItem>>, NoMemory>
-    ensures { IfOk result (λ nodes. IsRead tree_list 4 reader.old nodes reader.new) }
+    ensures { IfOk result (λ nodes. IsRead (tree_list names) 4 reader.old nodes reader.new) }
 {
     if takes_array(reader) {
-        rest_of_nodes(alloc, reader)
+        rest_of_nodes(alloc, names, reader)
     } else {
         Ok(None)
     }

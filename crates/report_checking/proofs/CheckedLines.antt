@@ -22,7 +22,7 @@ use Rattle.cobra.specs.Scripts.{AreVersionSessions, IsIsolatedLimit, IsVersionLi
 use Rattle.report_checking.specs.Checking.{TakesMemory, Checks, start, right, unchecked}
 use Rattle.report_checking.specs.OwedLines.{Owes, OwesIn, ScriptState}
 use Rattle.report_checking.specs.Outcomes.{FindsRightFirst}
-use Rattle.report_checking.specs.Reading.{HoldsScript, LeadsScript, MayGoOn, IsRead, Finds, FindsFor, FindsNext, IsFoundBy, IsFoundOf, IsFine, IsChecking, IsOwedBy, IsUnshownIn, LeadsOn, StopsOn, Advances, MayFind, Unshows}
+use Rattle.report_checking.specs.Reading.{HoldsScript, LeadsScript, MayGoOn, IsRead, Finds, FindsFor, FindsNext, IsFoundBy, IsFoundOf, IsFine, IsChecking, IsOwedBy, IsUnshownIn, LeadsOn, StopsOn, Advances, MayFind, Unshows, names_in}
 use Rattle.report_checking.specs.declared.findings.Found.{Found}
 use Rattle.report_checking.specs.declared.open_scripts.OpenScript.{OpenScript}
 use Rattle.report_checking.specs.declared.findings.Found.TheVariants as found
@@ -32,6 +32,7 @@ use Rattle.report_checking.specs.declared.checking.TheConstants.{LONGEST_REPLY}
 use Rattle.report_checking.specs.declared.findings.Owed.{Owed}
 use Rattle.report_checking.specs.declared.findings.Owed.TheVariants as owed
 use Rattle.report_checking.specs.declared.findings.What.{What}
+use Rattle.report_checking.proofs.ScriptReplies.{asks_along, none_along}
 use Rattle.report_checking.proofs.UnshownReplies.{unshown_along}
 
 -- None was open, and the first one is.
@@ -79,28 +80,28 @@ takes_along None (Some state) command holds takes = absurd holds
 takes_along (Some engine) None command holds takes = absurd holds
 
 -- what is found of the reply to a command is found of the reply to the line that asks for it
-pub finds_asked : (old new : Option OpenScript) (next : Next) (command : Command) (stored : List ℕ) → ((line : List ℕ) → IsTold line next → Asks line command) → (given : Found) → FindsFor old command stored given new → Finds old next stored given new
+pub finds_asked : (old new : Option OpenScript) (next : Next) (command : Command) (stored : List ℕ) → ((line : List ℕ) → IsTold line next → Asks (names_in old) line command) → (given : Found) → FindsFor old command stored given new → Finds old next stored given new
 finds_asked old new next command stored asks (found.Right what) finds = λ line said before holds.
     let after = finds.3 before holds in
-    (after.0, (record { answer = finds.0; owed = inl (command, asks line said, after.1); text_is = finds.1 }, finds.2), after.2)
+    (after.0, (record { answer = finds.0; owed = inl (command, asks_along old before line command holds (asks line said), after.1); text_is = finds.1 }, finds.2), after.2)
 finds_asked old new next command stored asks found.Unchecked finds = λ line said before holds.
     let after = finds.2 before holds in
-    (after.0, record { command = command; asks = asks line said; takes = takes_along old before command holds finds.0; text_is = finds.1; left = after.1 }, after.2)
+    (after.0, record { command = command; asks = asks_along old before line command holds (asks line said); takes = takes_along old before command holds finds.0; text_is = finds.1; left = after.1 }, after.2)
 finds_asked old new next command stored asks (found.Wrong (fault.Other text)) finds = λ line said before holds.
     let after = finds.3 before holds in
-    (after.0, (finds.1, record { answer = finds.0; owed = inl (command, asks line said, after.1); text_is = finds.2 }), after.2)
+    (after.0, (finds.1, record { answer = finds.0; owed = inl (command, asks_along old before line command holds (asks line said), after.1); text_is = finds.2 }), after.2)
 finds_asked old new next command stored asks (found.Wrong (fault.Unshown why)) finds = λ line said before holds.
-    record { command = command; asks = asks line said; is = unshown_along old before command stored why holds finds }
+    record { command = command; asks = asks_along old before line command holds (asks line said); is = unshown_along old before command stored why holds finds }
 finds_asked old new next command stored asks (found.Wrong fault.Missing) finds = absurd finds
 finds_asked old new next command stored asks (found.Wrong fault.TooLong) finds = absurd finds
 
 -- and of the reply to a line that asks for none
-pub finds_none : (old : Option OpenScript) (next : Next) (stored : List ℕ) → ((line : List ℕ) → IsTold line next → (command : Command) → ¬ Asks line command) → (given : Found) → IsFoundBy (told.No BadLine) stored given → Finds old next stored given old
+pub finds_none : (old : Option OpenScript) (next : Next) (stored : List ℕ) → ((line : List ℕ) → IsTold line next → (command : Command) → ¬ Asks (names_in old) line command) → (given : Found) → IsFoundBy (told.No BadLine) stored given → Finds old next stored given old
 finds_none old next stored none (found.Right what) is = λ line said before holds.
-    (before, (record { answer = told.No BadLine; owed = inr (none line said, (refl, refl)); text_is = is.0 }, is.1), holds)
+    (before, (record { answer = told.No BadLine; owed = inr (none_along old before line holds (none line said), (refl, refl)); text_is = is.0 }, is.1), holds)
 finds_none old next stored none found.Unchecked is = absurd is
 finds_none old next stored none (found.Wrong (fault.Other text)) is = λ line said before holds.
-    (before, (is.0, record { answer = told.No BadLine; owed = inr (none line said, (refl, refl)); text_is = is.1 }), holds)
+    (before, (is.0, record { answer = told.No BadLine; owed = inr (none_along old before line holds (none line said), (refl, refl)); text_is = is.1 }), holds)
 finds_none old next stored none (found.Wrong (fault.Unshown shown)) is = absurd is
 finds_none old next stored none (found.Wrong fault.Missing) is = absurd is
 finds_none old next stored none (found.Wrong fault.TooLong) is = absurd is

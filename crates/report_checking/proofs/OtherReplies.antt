@@ -14,7 +14,6 @@ use Rattle.log_text.specs.declared.saved.Saved.TheVariants as saved
 use Rattle.polygraph.specs.declared.solving.Answer.{Answer}
 use Rattle.polygraph.specs.declared.solving.Answer.TheVariants as answers
 use Rattle.settle.specs.declared.cuts.Cut.{Cut}
-use Rattle.log_text.specs.Commands.{Says}
 use Rattle.log_text.specs.ReadBack.{IsSameTree, IsSameShown}
 use Rattle.log_text.specs.Replies.{text_of}
 use Rattle.log_text.specs.declared.commands.Command.{Command}
@@ -56,7 +55,7 @@ use Rattle.report_checking.specs.declared.findings.Found.TheVariants as found
 use Rattle.report_checking.specs.declared.findings.Owed.{Owed}
 use Rattle.report_checking.specs.declared.findings.Owed.TheVariants as owed
 use Rattle.report_checking.specs.declared.open_scripts.OpenScript.{OpenScript}
-use Rattle.report_checking.proofs.RightReports.{shown_then, shown_self, same_refutation, same_answer, no_command, is_said}
+use Rattle.report_checking.proofs.RightReports.{shown_then, shown_self, same_refutation}
 use Rattle.report_checking.proofs.SaidOnce.{IsOne, IsSaidOnce, IsOneWay, said_once, begun_anyway}
 
 -- ---- what is owed is the one right reply
@@ -282,7 +281,7 @@ round_told : (old new : State) (answer : Reply) → OwesRound old answer new →
 round_told old new answer (inl is) none = (is.0, new.engine, is.1.engine, is.2)
 round_told old new answer (inr is) none = absurd (none_begun old is.0 is.1 (finish_told is.0 new answer is.2 none).0)
 
-judge_told : (old new : State) (it : Shown) (said : StepReply) (answer : Reply) → StepsTo old.engine (step.Judge (claim_of it)) said new.engine → answer ≡ reply_of said → IsNoReport answer → (other : Shown) × IsSameShown (Some it) (Some other) × IsRefusedBy old.engine (step.Judge (claim_of other)) answer
+pub judge_told : (old new : State) (it : Shown) (said : StepReply) (answer : Reply) → StepsTo old.engine (step.Judge (claim_of it)) said new.engine → answer ≡ reply_of said → IsNoReport answer → (other : Shown) × IsSameShown (Some it) (Some other) × IsRefusedBy old.engine (step.Judge (claim_of other)) answer
 judge_told old new it (reply.Refused r) answer steps is none = (it, shown_self it, (r, new.engine, steps, is))
 judge_told old new it (reply.Report report) answer steps is none = absurd (no_report report answer is none)
 judge_told old new it reply.Done answer steps is none = absurd steps

@@ -47,9 +47,10 @@ use Rattle.round_state.specs.declared.steps.StepReply.{StepReply}
 use Rattle.round_state.specs.declared.steps.StepReply.TheVariants as reply
 use Rattle.cobra.specs.Outputs.{Asks, IsTold}
 use Rattle.cobra.specs.StepReplies.{claim_of, certified, report_of, reply_of}
-use Rattle.report_checking.specs.Isolation.{IsShownBy, told_by}
+use Rattle.report_checking.specs.Isolation.{told_by}
+use Rattle.log_text.specs.Shown.{IsShownIn}
 use Rattle.report_checking.specs.Owing.{IsEarned, IsOfEngine}
-use Rattle.report_checking.specs.Reading.{IsAnswerOf, IsToldOf, OwesText, Earns, EarnsWhere, EarnsBeside, EarnsIn, EarnsScript, OfRight, IsFair, IsFairTo}
+use Rattle.report_checking.specs.Reading.{IsAnswerOf, IsToldOf, OwesText, Earns, EarnsWhere, EarnsBeside, EarnsIn, EarnsScript, OfRight, IsFair, IsFairTo, names_in}
 use Rattle.report_checking.specs.RightReports.{shown_of}
 use Rattle.report_checking.specs.declared.findings.Found.{Found}
 use Rattle.report_checking.specs.declared.findings.Found.TheVariants as found
@@ -205,7 +206,7 @@ reported_texts names old (Some parts) first answer report other right is again =
     same_texts names parts first answer report other report.certificate other.certificate (again.number ∙ sym right.number) (again.counts ∙ sym right.counts) right.right is again.right
 
 -- the answer that the stored reply tells earns the report
-pub right_finished : (names : Names) (old : EngineState) (stored : List ℕ) (answer : Answer) (other : Report) (given : Reply) → ((it : Option Shown) → IsShownBy names stored it → IsAnswerOf it answer) → IsReportedBy old old.asked answer other → given ≡ report_of other
+pub right_finished : (names : Names) (old : EngineState) (stored : List ℕ) (answer : Answer) (other : Report) (given : Reply) → ((it : Option Shown) → IsShownIn names stored it → IsAnswerOf it answer) → IsReportedBy old old.asked answer other → given ≡ report_of other
     → OfRight names (IsEarned old) stored (λ text. OwesText names text (owed.Reply given))
 right_finished names old stored answer other given told again is report new earned shows =
     inr (ap (λ (r : Reply). text_of (told_by names r)) is ∙ reported_texts names old old.asked earned.answer answer report other (reported old new old.asked earned.answer report earned.reported) (told (shown_of report.certificate) shows) again)
@@ -221,8 +222,8 @@ never_wrong : (old : EngineState) (asked : Option Parts) (first answer : Answer)
 never_wrong old None first answer report right is wrong = wrong
 never_wrong old (Some parts) first answer report right is wrong = not_wrong parts first answer report.kind report.certificate right.right is wrong
 
-pub never_bad : (names : Names) (old : EngineState) (stored : List ℕ) (answer : Answer) → ((it : Option Shown) → IsShownBy names stored it → IsAnswerOf it answer) → IsFinishRefusal old answer refusals.BadCertificate
-    → (report : Report) (new : EngineState) → IsEarned old report new → IsShownBy names stored (shown_of report.certificate) → ⊥
+pub never_bad : (names : Names) (old : EngineState) (stored : List ℕ) (answer : Answer) → ((it : Option Shown) → IsShownIn names stored it → IsAnswerOf it answer) → IsFinishRefusal old answer refusals.BadCertificate
+    → (report : Report) (new : EngineState) → IsEarned old report new → IsShownIn names stored (shown_of report.certificate) → ⊥
 never_bad names old stored answer told wrong report new earned shows =
     never_wrong old old.asked earned.answer answer report (reported old new old.asked earned.answer report earned.reported) (told (shown_of report.certificate) shows) wrong
 
@@ -313,38 +314,38 @@ right_judged names old it stored given told = subst (λ (g : Owed). OfRight name
 -- ---- a line is one command
 
 -- a line that hands an answer in is no other command
-no_other : (items : Items) (it : Shown) → HandsIn items it → command_of (array items) ≡ None
-no_other (item name (item word (item given no_items))) it hands = ap (λ d. command_of (array (item d (item word (item given no_items))))) hands.0 ∙ refl
-no_other items it hands = absurd hands
+no_other : (names : Names) (items : Items) (it : Shown) → HandsIn names items it → command_of (array items) ≡ None
+no_other names (item name (item word (item given no_items))) it hands = ap (λ d. command_of (array (item d (item word (item given no_items))))) hands.0 ∙ refl
+no_other names items it hands = absurd hands
 
-pub no_command : (said : Data) (it : Shown) → IsAnswer said it → command_of said ≡ None
-no_command (array items) it hands = no_other items it hands
-no_command said it hands = absurd hands
+pub no_command : (names : Names) (said : Data) (it : Shown) → IsAnswer names said it → command_of said ≡ None
+no_command names (array items) it hands = no_other names items it hands
+no_command names said it hands = absurd hands
 
 -- it hands one answer in
 no_word_of_both : (word : Data) → word ≡ string (codes "order") → word ≡ string (codes "refuted") → ⊥
 no_word_of_both word one two = let no : string (codes "order") ≡ string (codes "refuted") = sym one ∙ two in cc
 
-same_given : (word given : Data) (one two : Shown) → Shows word given one → Shows word given two → IsSameShown (Some one) (Some two)
-same_given word given (shown.Order order) (shown.Order order') a b = let same : Some order ≡ Some order' = sym a.1 ∙ b.1 in cc
-same_given word given (shown.Order order) (shown.Refuted tree) a b = absurd (no_word_of_both word a.0 b.0)
-same_given word given (shown.Refuted tree) (shown.Order order) a b = absurd (no_word_of_both word b.0 a.0)
-same_given word given (shown.Refuted tree) (shown.Refuted tree') a b =
+same_given : (names : Names) (word given : Data) (one two : Shown) → Shows names word given one → Shows names word given two → IsSameShown (Some one) (Some two)
+same_given names word given (shown.Order order) (shown.Order order') a b = let same : Some order ≡ Some order' = sym a.1 ∙ b.1 in cc
+same_given names word given (shown.Order order) (shown.Refuted tree) a b = absurd (no_word_of_both word a.0 b.0)
+same_given names word given (shown.Refuted tree) (shown.Order order) a b = absurd (no_word_of_both word b.0 a.0)
+same_given names word given (shown.Refuted tree) (shown.Refuted tree') a b =
     let same : Some (nodes_of tree) ≡ Some (nodes_of tree') = sym a.1.nodes ∙ b.1.nodes in
     same_tree tree tree' a.1.merged b.1.merged (let e : nodes_of tree ≡ nodes_of tree' = cc in e)
 
-same_handed : (items : Items) (one two : Shown) → HandsIn items one → HandsIn items two → IsSameShown (Some one) (Some two)
-same_handed (item name (item word (item given no_items))) one two a b = same_given word given one two a.1 b.1
-same_handed items one two a b = absurd a
+same_handed : (names : Names) (items : Items) (one two : Shown) → HandsIn names items one → HandsIn names items two → IsSameShown (Some one) (Some two)
+same_handed names (item name (item word (item given no_items))) one two a b = same_given names word given one two a.1 b.1
+same_handed names items one two a b = absurd a
 
-pub same_answer : (said : Data) (one two : Shown) → IsAnswer said one → IsAnswer said two → IsSameShown (Some one) (Some two)
-same_answer (array items) one two a b = same_handed items one two a b
-same_answer said one two a b = absurd a
+pub same_answer : (names : Names) (said : Data) (one two : Shown) → IsAnswer names said one → IsAnswer names said two → IsSameShown (Some one) (Some two)
+same_answer names (array items) one two a b = same_handed names items one two a b
+same_answer names said one two a b = absurd a
 
-pub is_said : (line : List ℕ) (asked other : Command) → Asks line asked → (a : Asks line other) → Says a.is.said asked
-is_said line asked other one two =
+pub is_said : (names : Names) (line : List ℕ) (asked other : Command) → Asks names line asked → (a : Asks names line other) → Says names a.is.said asked
+is_said names line asked other one two =
     let same : Some one.is.said ≡ Some two.is.said = sym one.is.reads ∙ two.is.reads in
-    subst (λ (d : Data). Says d asked) (let e : one.is.said ≡ two.is.said = cc in e) one.is.is
+    subst (λ (d : Data). Says names d asked) (let e : one.is.said ≡ two.is.said = cc in e) one.is.is
 
 -- ---- reports beside a search
 
@@ -362,31 +363,31 @@ pub engine_right : (names : Names) (searched : Bool) (old : EngineState) (asked 
     → OfRight names (EarnsBeside searched old asked) stored (λ text. OwesText names text given)
 engine_right names searched old asked stored given of right report new earned shows = right report new (earns_by_engine searched old asked report new of earned) shows
 
--- an answer that is handed in earns what one that is the same does; where transactions are split none does
+-- an answer that is handed in earns what one that is the same does
 earns_answer : (opening : Opening) (searched : Bool) (old : EngineState) (it other : Shown) (report : Report) (new : EngineState) → IsSameShown (Some it) (Some other)
     → EarnsIn opening searched old (command.Answer other) report new → EarnsIn opening searched old (command.Answer it) report new
 earns_answer (Ordered version) searched old it other report new same earned = (earned.0, shown_then it other earned.0 same earned.1, earned.2)
-earns_answer (Isolated version) searched old it other report new same earned = absurd earned.0
+earns_answer (Isolated version) searched old it other report new same earned = (tt, (earned.1.0, shown_then it other earned.1.0 same earned.1.1, earned.1.2))
 
-earns_said : (old : Option OpenScript) (said : Data) (asked other : Command) (report : Report) (new : EngineState) → Says said asked → Says said other → EarnsScript old asked report new → EarnsScript old other report new
-earns_said old said asked other report new (inl one) (inl two) earned =
+earns_said : (names : Names) (old : Option OpenScript) (said : Data) (asked other : Command) (report : Report) (new : EngineState) → Says names said asked → Says names said other → EarnsScript old asked report new → EarnsScript old other report new
+earns_said names old said asked other report new (inl one) (inl two) earned =
     let same : Some asked ≡ Some other = sym one ∙ two in
     subst (λ (c : Command). EarnsScript old c report new) (let e : asked ≡ other = cc in e) earned
-earns_said old said asked other report new (inl one) (inr two) earned = let no : Some asked ≡ None = sym one ∙ no_command said two.0 two.1 in absurd (let it : ⊥ = cc in it)
-earns_said None said asked other report new (inr one) two earned = absurd earned
-earns_said (Some old) said asked other report new (inr one) (inl two) earned = let no : Some other ≡ None = sym two ∙ no_command said one.0 one.1 in absurd (let it : ⊥ = cc in it)
-earns_said (Some old) said asked other report new (inr one) (inr two) earned =
+earns_said names old said asked other report new (inl one) (inr two) earned = let no : Some asked ≡ None = sym one ∙ no_command names said two.0 two.1 in absurd (let it : ⊥ = cc in it)
+earns_said names None said asked other report new (inr one) two earned = absurd earned
+earns_said names (Some old) said asked other report new (inr one) (inl two) earned = let no : Some other ≡ None = sym two ∙ no_command names said one.0 one.1 in absurd (let it : ⊥ = cc in it)
+earns_said names (Some old) said asked other report new (inr one) (inr two) earned =
     let first : EarnsIn old.opening old.searched old.engine (command.Answer one.0) report new = subst (λ (c : Command). EarnsIn old.opening old.searched old.engine c report new) one.2 earned in
-    subst (λ (c : Command). EarnsIn old.opening old.searched old.engine c report new) (sym two.2) (earns_answer old.opening old.searched old.engine two.0 one.0 report new (same_answer said two.0 one.0 two.1 one.1) first)
+    subst (λ (c : Command). EarnsIn old.opening old.searched old.engine c report new) (sym two.2) (earns_answer old.opening old.searched old.engine two.0 one.0 report new (same_answer names said two.0 one.0 two.1 one.1) first)
 
-pub fair_asked : (old : Option OpenScript) (next : Next) (asked : Command) (stored : List ℕ) → ((line : List ℕ) → IsTold line next → Asks line asked) → (got : Found) → IsFair old asked stored got → IsFairTo old next stored got
+pub fair_asked : (old : Option OpenScript) (next : Next) (asked : Command) (stored : List ℕ) → ((line : List ℕ) → IsTold line next → Asks (names_in old) line asked) → (got : Found) → IsFair old asked stored got → IsFairTo old next stored got
 fair_asked old next asked stored asks (found.Right what) fair = tt
 fair_asked old next asked stored asks found.Unchecked fair = tt
 fair_asked old next asked stored asks (found.Wrong why) fair = λ line said other again report new earned shows.
     let here = asks line said in
-    fair report new (earns_said old here.is.said other asked report new (is_said line other asked again here) here.is.is earned) shows
+    fair report new (earns_said (names_in old) old here.is.said other asked report new (is_said (names_in old) line other asked again here) here.is.is earned) shows
 
-pub fair_none : (old : Option OpenScript) (next : Next) (stored : List ℕ) → ((line : List ℕ) → IsTold line next → (asked : Command) → ¬ Asks line asked) → (got : Found) → IsFairTo old next stored got
+pub fair_none : (old : Option OpenScript) (next : Next) (stored : List ℕ) → ((line : List ℕ) → IsTold line next → (asked : Command) → ¬ Asks (names_in old) line asked) → (got : Found) → IsFairTo old next stored got
 fair_none old next stored none (found.Right what) = tt
 fair_none old next stored none found.Unchecked = tt
 fair_none old next stored none (found.Wrong why) = λ line said other again. absurd (none line said other again)

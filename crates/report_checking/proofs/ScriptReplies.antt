@@ -1,4 +1,5 @@
 -- Right replies of scripts that are no reports are told right.
+use Rattle.log_text.specs.declared.names.Names.{Names}
 use Rattle.std.proofs.Common.{◌≡◌, ◌≢◌, ℕ, ◌*◌, ◌≤◌, List, Option, Some, None, true, false, refl, ap, sym, ◌∙◌, subst, inl, inr}
 use Rattle.std.specs.Prelude.{Bool, not, ◌⊎◌}
 use Rattle.serde_json.specs.Data.{Data}
@@ -27,6 +28,7 @@ use Rattle.round_state.specs.declared.reports.Certificate.{Certificate}
 use Rattle.round_state.specs.declared.reports.Certificate.TheVariants.{Order, Refuted, Nothing}
 use Rattle.round_state.specs.declared.reports.Report.{Report}
 use Rattle.round_state.specs.declared.steps.Step.TheVariants as step
+use Rattle.round_state.specs.declared.steps.StepReply.{StepReply}
 use Rattle.round_state.specs.declared.steps.StepReply.TheVariants as reply
 use Rattle.isolation_histories.specs.Logged.{split_logged}
 use Rattle.isolation_scripts.specs.Isolated.{isolated_of}
@@ -36,10 +38,10 @@ use Rattle.cobra.specs.Saving.{saved_told}
 use Rattle.cobra.specs.Scripts.{AreVersionSessions, IsBeginningRefusal, IsIsolatedLimit, IsIsolatedRefusal, IsLimitWithin, IsVersionLimit, IsVersionRefusal, state_told}
 use Rattle.cobra.specs.StepReplies.{certified, report_of, reply_of}
 use Rattle.report_checking.specs.Checking.{AsksOfMemory, OpensEngine, TakesMemory, IsUnchecked}
-use Rattle.report_checking.specs.Isolation.{EndsIsolated, IsIsolatedRound, EndsWhere, OwesSplit, OwesAsked, OwesIsolated}
-use Rattle.report_checking.specs.OwedLines.{OwesFirst, OwesIn, Owes, OwesLine, ScriptState}
+use Rattle.report_checking.specs.Isolation.{EndsIsolated, IsIsolatedRound, EndsWhere, OwesSplit, OwesAsked, OwesIsolated, names_of}
+use Rattle.report_checking.specs.OwedLines.{OwesFirst, OwesIn, Owes, OwesLine, ScriptState, names_told}
 use Rattle.report_checking.specs.Owing.{BeginsSearch, IsOfEngine}
-use Rattle.report_checking.specs.Reading.{HoldsIn, HoldsScript, GivesFirst, GivesWhere, GivesBeside, GivesIsolated, GivesIn, GivesScript, MayGoOn, IsAlone, IsOtherwise, IsOtherwiseTo, IsFoundBy, IsFoundOf}
+use Rattle.report_checking.specs.Reading.{HoldsIn, HoldsScript, GivesFirst, GivesWhere, GivesBeside, GivesIsolated, GivesIn, GivesScript, MayGoOn, IsAlone, IsOtherwise, IsOtherwiseTo, IsFoundBy, IsFoundOf, names_in}
 use Rattle.report_checking.specs.RightReports.{IsNoReport, IsRightOther}
 use Rattle.report_checking.specs.declared.findings.Fault.{Fault}
 use Rattle.report_checking.specs.declared.findings.Fault.TheVariants as fault
@@ -48,7 +50,7 @@ use Rattle.report_checking.specs.declared.findings.Found.TheVariants as found
 use Rattle.report_checking.specs.declared.findings.Owed.{Owed}
 use Rattle.report_checking.specs.declared.findings.Owed.TheVariants as owed
 use Rattle.report_checking.specs.declared.open_scripts.OpenScript.{OpenScript}
-use Rattle.report_checking.proofs.OtherReplies.{GivesOrGoesOn, gives_beside, other_refusal, takes_beside}
+use Rattle.report_checking.proofs.OtherReplies.{GivesOrGoesOn, gives_beside, judge_told, other_refusal, takes_beside}
 use Rattle.report_checking.proofs.RightReports.{shown_then, same_answer, no_command, is_said}
 use Rattle.report_checking.proofs.SaidOnce.{IsOne}
 
@@ -80,7 +82,6 @@ takes_split asked takes = takes
 takes_fault : (most : ℕ) (asked : Command) (refusal : Refusal) → IsAskedFault most asked refusal → AsksOfMemory asked
 takes_fault most (command.Offer logged) refusal fault = tt
 takes_fault most (command.Join logged) refusal fault = tt
-takes_fault most (command.Answer shown) refusal fault = tt
 takes_fault most asked refusal fault = absurd fault
 
 takes_isolated : (version : Version) (searched : Bool) (old : EngineState) (asked : Command) → GivesIsolated version searched old asked (told.No NoMemory) → AsksOfMemory asked
@@ -124,7 +125,7 @@ other_found old asked stored (owed.Nothing it) alone checked ended (found.Wrong 
 gives_same : (opening : Opening) (searched : Bool) (old : EngineState) (it other : Shown) (answer : Reply) → IsSameShown (Some it) (Some other) → GivesIn opening searched old (command.Answer other) answer → GivesIn opening searched old (command.Answer it) answer
 gives_same (Ordered version) searched old it other answer same is = (is.0, shown_then it other is.0 same is.1, is.2)
 gives_same (Isolated version) searched old it other answer same (inl fault) = inl fault
-gives_same (Isolated version) searched old it other answer same (inr is) = absurd is.0
+gives_same (Isolated version) searched old it other answer same (inr is) = inr (tt, is.1, (is.2.0, shown_then it other is.2.0 same is.2.1, is.2.2), is.3)
 
 gives_answer : (old : Option OpenScript) (it other : Shown) (answer : Reply) → IsSameShown (Some it) (Some other) → GivesScript old (command.Answer other) answer → GivesScript old (command.Answer it) answer
 gives_answer None it other answer same is = is
@@ -134,25 +135,25 @@ otherwise_answer : (old : Option OpenScript) (it other : Shown) (stored : List �
 otherwise_answer None it other stored why same is = is
 otherwise_answer (Some old) it other stored why same is = (λ right gives. is.0 right (gives_answer (Some old) it other right same gives), is.1, is.2)
 
-otherwise_said : (old : Option OpenScript) (said : Data) (asked other : Command) (stored : List ℕ) (why : Fault) → Says said asked → Says said other → IsOtherwise old asked stored (found.Wrong why) → IsOtherwise old other stored (found.Wrong why)
-otherwise_said old said asked other stored why (inl one) (inl two) is =
+otherwise_said : (names : Names) (old : Option OpenScript) (said : Data) (asked other : Command) (stored : List ℕ) (why : Fault) → Says names said asked → Says names said other → IsOtherwise old asked stored (found.Wrong why) → IsOtherwise old other stored (found.Wrong why)
+otherwise_said names old said asked other stored why (inl one) (inl two) is =
     let same : Some asked ≡ Some other = sym one ∙ two in
     subst (λ (c : Command). IsOtherwise old c stored (found.Wrong why)) (let e : asked ≡ other = cc in e) is
-otherwise_said old said asked other stored why (inl one) (inr two) is = let no : Some asked ≡ None = sym one ∙ no_command said two.0 two.1 in absurd (let it : ⊥ = cc in it)
-otherwise_said old said asked other stored why (inr one) (inl two) is = let no : Some other ≡ None = sym two ∙ no_command said one.0 one.1 in absurd (let it : ⊥ = cc in it)
-otherwise_said old said asked other stored why (inr one) (inr two) is =
+otherwise_said names old said asked other stored why (inl one) (inr two) is = let no : Some asked ≡ None = sym one ∙ no_command names said two.0 two.1 in absurd (let it : ⊥ = cc in it)
+otherwise_said names old said asked other stored why (inr one) (inl two) is = let no : Some other ≡ None = sym two ∙ no_command names said one.0 one.1 in absurd (let it : ⊥ = cc in it)
+otherwise_said names old said asked other stored why (inr one) (inr two) is =
     let first : IsOtherwise old (command.Answer one.0) stored (found.Wrong why) = subst (λ (c : Command). IsOtherwise old c stored (found.Wrong why)) one.2 is in
-    subst (λ (c : Command). IsOtherwise old c stored (found.Wrong why)) (sym two.2) (otherwise_answer old one.0 two.0 stored why (same_answer said one.0 two.0 one.1 two.1) first)
+    subst (λ (c : Command). IsOtherwise old c stored (found.Wrong why)) (sym two.2) (otherwise_answer old one.0 two.0 stored why (same_answer names said one.0 two.0 one.1 two.1) first)
 
-pub otherwise_asked : (old : Option OpenScript) (next : Next) (asked : Command) (stored : List ℕ) → ((line : List ℕ) → IsTold line next → Asks line asked) → (got : Found) → IsOtherwise old asked stored got → IsOtherwiseTo old next stored got
+pub otherwise_asked : (old : Option OpenScript) (next : Next) (asked : Command) (stored : List ℕ) → ((line : List ℕ) → IsTold line next → Asks (names_in old) line asked) → (got : Found) → IsOtherwise old asked stored got → IsOtherwiseTo old next stored got
 otherwise_asked old next asked stored asks (found.Right what) is = tt
 otherwise_asked old next asked stored asks found.Unchecked is = tt
 otherwise_asked old next asked stored asks (found.Wrong why) is = λ line said. (
-  λ other again. let here = asks line said in otherwise_said old here.is.said asked other stored why here.is.is (is_said line other asked again here) is,
+  λ other again. let here = asks line said in otherwise_said (names_in old) old here.is.said asked other stored why here.is.is (is_said (names_in old) line other asked again here) is,
   λ none. absurd (none asked (asks line said)),
 )
 
-pub otherwise_none : (old : Option OpenScript) (next : Next) (stored : List ℕ) → ((line : List ℕ) → IsTold line next → (asked : Command) → ¬ Asks line asked) → (got : Found) → IsFoundBy (told.No BadLine) stored got → IsOtherwiseTo old next stored got
+pub otherwise_none : (old : Option OpenScript) (next : Next) (stored : List ℕ) → ((line : List ℕ) → IsTold line next → (asked : Command) → ¬ Asks (names_in old) line asked) → (got : Found) → IsFoundBy (told.No BadLine) stored got → IsOtherwiseTo old next stored got
 otherwise_none old next stored none (found.Right what) is = tt
 otherwise_none old next stored none found.Unchecked is = tt
 otherwise_none old next stored none (found.Wrong (fault.Other text)) is = λ line said. (
@@ -200,6 +201,12 @@ no_report_told report Nothing none = none
 no_report_by : (report : Report) (answer : Reply) → answer ≡ isolated_of (report_of report) → IsNoReport answer → ⊥
 no_report_by report answer is none = no_report_told report report.certificate (subst IsNoReport is none)
 
+no_report_halves : (said : StepReply) → IsNoReport (isolated_of (reply_of said)) → IsNoReport (reply_of said)
+no_report_halves reply.Done none = tt
+no_report_halves (reply.Refused refusal) none = tt
+no_report_halves (reply.Cut cut) none = tt
+no_report_halves (reply.Report report) none = absurd (no_report_told report report.certificate none)
+
 -- a reply that is told as it is
 as_it_is : (answer fixed : Reply) → isolated_of fixed ≡ fixed → answer ≡ fixed → answer ≡ isolated_of answer
 as_it_is answer fixed same is = is ∙ sym same ∙ ap isolated_of (sym is)
@@ -238,7 +245,8 @@ split_by_halves version searched old new command.Truncate answer of can is none 
 split_by_halves version searched old new command.Rebuild answer of can is none = (reply_of is.0, (is.0, new.engine, is.1.engine, refl), is.2)
 split_by_halves version searched old new command.Show answer of can is none = (state_told old.engine, refl, is.0)
 split_by_halves version searched old new (command.Save wanted) answer of can is none = (saved_told old.engine.parts (split_wanted wanted), refl, is.0)
-split_by_halves version searched old new (command.Answer shown) answer of can is none = absurd can
+split_by_halves version searched old new (command.Answer shown) answer of can is none =
+    (reply_of is.0, judge_told old new shown is.0 (reply_of is.0) is.1.engine refl (no_report_halves is.0 (subst IsNoReport is.2 none)), is.2)
 split_by_halves version searched old new (command.Finish budget depth workers search) answer of can is none = absurd of
 split_by_halves version searched old new (command.BeginSearch budget depth workers search) answer of can is none = absurd of
 split_by_halves version searched old new (command.Collect waits) answer of can is none = absurd of
@@ -251,7 +259,6 @@ asked_or version searched after old new (command.Collect waits) answer can (inl 
 asked_or version searched after old new (command.Collect waits) answer can (inr is) none = inl (where_by_halves searched NoRound searched after old new answer is none)
 asked_or version searched after old new command.Skip answer can is none = inl (reply_of is.0.0, (is.0.0, new.engine, is.0.1.engine, refl), is.0.2)
 asked_or version searched after old new (command.Finish budget depth workers search) answer can is none = inl (where_by_halves (not searched) RoundOpen searched after old new answer is none)
-asked_or version searched after old new (command.Answer shown) answer can is none = absurd can
 asked_or version searched after old new asked answer can is none = inl (split_by_halves version searched old new asked answer tt can is.0 none)
 
 by_asked : (version : Version) (searched : Bool) (old : EngineState) (asked : Command) (answer : Reply) → CanBeAsked (most_sessions version) asked → ByHalves version searched old asked answer ⊎ (MayGo searched asked × (answer ≡ told.Searching)) → GivesOr (Isolated version) searched old asked answer
@@ -272,6 +279,25 @@ same_engine (Ordered version) engine state holds = holds.same
 same_engine (Isolated version) engine state holds = holds.holds.same
 
 -- ---- of a script
+
+-- the names of its lines are those of its state's
+same_names : (script : Option OpenScript) (state : Option ScriptState) → HoldsScript script state → names_in script ≡ names_told state
+same_names None None holds = refl
+same_names (Some script) (Some state) holds = ap names_of holds.1
+same_names None (Some state) holds = absurd holds
+same_names (Some script) None holds = absurd holds
+
+pub asks_along : (script : Option OpenScript) (state : Option ScriptState) (line : List ℕ) (asked : Command) → HoldsScript script state → Asks (names_in script) line asked → Asks (names_told state) line asked
+asks_along script state line asked holds asks = subst (λ (n : Names). Asks n line asked) (same_names script state holds) asks
+
+asks_back : (script : Option OpenScript) (state : Option ScriptState) (line : List ℕ) (asked : Command) → HoldsScript script state → Asks (names_told state) line asked → Asks (names_in script) line asked
+asks_back script state line asked holds asks = subst (λ (n : Names). Asks n line asked) (sym (same_names script state holds)) asks
+
+pub none_along : (script : Option OpenScript) (state : Option ScriptState) (line : List ℕ) → HoldsScript script state → ((asked : Command) → ¬ Asks (names_in script) line asked) → (asked : Command) → ¬ Asks (names_told state) line asked
+none_along script state line holds none asked asks = none asked (asks_back script state line asked holds asks)
+
+none_back : (script : Option OpenScript) (state : Option ScriptState) (line : List ℕ) → HoldsScript script state → ((asked : Command) → ¬ Asks (names_told state) line asked) → (asked : Command) → ¬ Asks (names_in script) line asked
+none_back script state line holds none asked asks = none asked (asks_along script state line asked holds asks)
 
 abbrev GivesNow : Option OpenScript → Command → Reply → Type 0
 GivesNow script asked answer = GivesScript script asked answer ⊎ (MayGoOn script asked × (answer ≡ told.Searching))
@@ -301,8 +327,8 @@ not_given script asked stored why answer is (inr on) = λ same. is.2 on.0 (same 
 
 line_owed : (script : Option OpenScript) (old new : Option ScriptState) (next : Next) (line stored : List ℕ) (why : Fault) (answer : Reply) → HoldsScript script old → IsTold line next → IsOtherwiseTo script next stored (found.Wrong why) → IsNoReport answer → OwesLine old line answer new → stored ≢ text_of answer
 line_owed script old new next line stored why answer holds said is none (inl owes) =
-    not_given script owes.0 stored why answer ((is line said).0 owes.0 owes.1) (gives_owed script old new owes.0 answer holds owes.2 none)
-line_owed script old new next line stored why answer holds said is none (inr owes) = λ same. (is line said).1 owes.0 (same ∙ ap text_of owes.1.0)
+    not_given script owes.0 stored why answer ((is line said).0 owes.0 (asks_back script old line owes.0 holds owes.1)) (gives_owed script old new owes.0 answer holds owes.2 none)
+line_owed script old new next line stored why answer holds said is none (inr owes) = λ same. (is line said).1 (none_back script old line holds owes.0) (same ∙ ap text_of owes.1.0)
 
 pub no_right_other : (script : Option OpenScript) (old : Option ScriptState) (next : Next) (line stored : List ℕ) (why : Fault) → HoldsScript script old → IsTold line next → IsOtherwiseTo script next stored (found.Wrong why) → ¬ IsRightOther old line stored
 no_right_other script old next line stored why holds said is right = line_owed script old right.new next line stored why right.answer holds said is right.no_report right.owed right.text_is
@@ -314,7 +340,7 @@ takes_back None (Some old) asked holds takes = absurd holds
 takes_back (Some script) None asked holds takes = absurd holds
 
 pub no_unchecked : (script : Option OpenScript) (old : Option ScriptState) (next : Next) (line stored : List ℕ) (why : Fault) → HoldsScript script old → IsTold line next → IsOtherwiseTo script next stored (found.Wrong why) → (new : Option ScriptState) → ¬ IsUnchecked old line stored new
-no_unchecked script old next line stored why holds said is new un = ((is line said).0 un.command un.asks).1 (takes_back script old un.command holds un.takes) un.text_is
+no_unchecked script old next line stored why holds said is new un = ((is line said).0 un.command (asks_back script old line un.command holds un.asks)).1 (takes_back script old un.command holds un.takes) un.text_is
 
 -- ---- an engine is opened
 

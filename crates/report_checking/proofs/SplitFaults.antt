@@ -98,11 +98,9 @@ same_fault most f r q a b = same_faulty most f r q (faulty most f r a) (faulty m
 pub no_asked_fault : (most : ℕ) (asked : Command) (r : Refusal) → CanBeAsked most asked → IsAskedFault most asked r → ⊥
 no_asked_fault most (command.Offer logged) r can is = no_fault most logged.fragment r can is
 no_asked_fault most (command.Join logged) r can is = no_fault most logged.fragment r can is
-no_asked_fault most (command.Answer shown) r can is = can
 no_asked_fault most asked r can is = is
 
 pub same_asked_fault : (most : ℕ) (asked : Command) (r q : Refusal) → IsAskedFault most asked r → IsAskedFault most asked q → r ≡ q
 same_asked_fault most (command.Offer logged) r q a b = same_fault most logged.fragment r q a b
 same_asked_fault most (command.Join logged) r q a b = same_fault most logged.fragment r q a b
-same_asked_fault most (command.Answer shown) r q a b = a ∙ sym b
 same_asked_fault most asked r q a b = absurd a

@@ -1,4 +1,5 @@
 -- What is owed by halves, told of begins and commits, is owed of the history as it was offered.
+use Rattle.round_state.specs.declared.steps.Claim.{Claim}
 use Rattle.std.proofs.Common.{◌≡◌, ℕ, ◌+◌, List, Option, Some, None, true, false, refl, ap, sym, subst, ◌∙◌, inl, inr}
 use Rattle.std.specs.Prelude.{Bool, not, ◌⊎◌, ⊤, IsSomeAnd}
 use Rattle.txn.specs.History.{History}
@@ -38,7 +39,7 @@ use Rattle.isolation_scripts.specs.Legal.{IsIsolationOf, TellsIsolationOf, IsTru
 use Rattle.isolation_scripts.specs.Splitting.{CanBeAsked, IsAskedFault, split_command}
 use Rattle.isolation_scripts.specs.Steps.{split_step, CanBeMade}
 use Rattle.cobra.specs.Scripts.{IsBadLine, IsTakenIn}
-use Rattle.cobra.specs.StepReplies.{reply_of, report_of}
+use Rattle.cobra.specs.StepReplies.{reply_of, report_of, claim_of}
 use Rattle.report_checking.specs.Isolation.{IsOwedIsolation, IsIsolatedStep, EndsIsolated, IsIsolatedRound, EndsWhere, OwesSplit, OwesAsked, OwesIsolated}
 use Rattle.report_checking.specs.Owing.{IsStep, OwesFinish, OwesRound, OwesOpen, OwesBeside, FinishesWhere, GoesOn, BeginsSearch, IsOfEngine, searched_after}
 use Rattle.report_checking.specs.Reading.{Leads, LeadsSplit, IsOwedBy, OfRight, OwesText, IsAlone, EarnsBeside, EarnsIn, GivesBeside, GivesIsolated, isolated_owed}
@@ -174,6 +175,21 @@ tells laws whole split report can is told =
     let here : TellsOf (split_history whole) report = subst (λ (h : History). TellsOf h report) is told in
     record { counts = here.counts ∙ (laws.doubles whole).counts; kind = kind_of laws.keeps whole report.kind can here.kind }
 
+-- what is handed in is judged
+judged_true : Laws → (before mid : State) (claim : Claim) (said : StepReply) → HistoryCanBeSplit before.asked → Legal (split_state before) (step.Judge claim) said mid → IsTrueIsolation before said
+judged_true laws before mid claim (reply.Report report) can legal = tells laws before.asked (split_history before.asked) report can refl legal.true_reply
+judged_true laws before mid claim reply.Done can legal = tt
+judged_true laws before mid claim (reply.Refused refusal) can legal = tt
+judged_true laws before mid claim (reply.Cut cut) can legal = tt
+
+judged : Laws → (old new : EngineState) (claim : Claim) (inner : Reply) → Leads old new (λ before after. IsStep before (step.Judge claim) inner after) → LeadsSplit old new (λ before after. IsIsolatedStep before (step.Judge claim) (isolated_of inner) after)
+judged laws old new claim inner leads before holds =
+    let mid = leads (split_state before) holds.holds in
+    let said = mid.1.0 in
+    let legal = mid.1.1 in
+    let it = made new before mid.0 (step.Judge claim) said before.asked legal.engine (judged_true laws before mid.0 claim said holds.asked legal) legal.whole legal.asked holds.whole holds.asked refl refl mid.2 in
+    (it.0, (said, it.1, ap isolated_of mid.1.2), it.2)
+
 -- a finish, of a state whose histories are these, split
 ended : Laws → (new : EngineState) (before at mid : State) (inner : Reply) → at.engine ≡ before.engine → at.whole ≡ split_history before.whole → at.asked ≡ split_history before.asked → HistoryCanBeSplit before.whole → HistoryCanBeSplit before.asked
     → OwesFinish at inner mid → Holds new mid → (after : State) × EndsIsolated before (isolated_of inner) after × HoldsSplit new after
@@ -278,7 +294,7 @@ split_owed laws version old new command.Show inner can of leads = λ before hold
 split_owed laws version old new (command.Save wanted) inner can of leads = λ before holds.
     let mid = leads (split_state before) holds.holds in
     (before, (ap isolated_of mid.1.0, refl), kept new before mid.0 holds.whole holds.asked mid.1.1 mid.2)
-split_owed laws version old new (command.Answer shown) inner can of leads = absurd can
+split_owed laws version old new (command.Answer shown) inner can of leads = judged laws old new (claim_of shown) inner leads
 split_owed laws version old new (command.Finish budget depth workers search) inner can of leads = absurd of
 split_owed laws version old new (command.BeginSearch budget depth workers search) inner can of leads = absurd of
 split_owed laws version old new (command.Collect waits) inner can of leads = absurd of
@@ -322,7 +338,6 @@ asked_owed laws version old new searched now command.Skip inner can leads before
 asked_owed laws version old new searched now (command.Finish budget depth workers search) inner can leads before holds =
     let mid = leads (split_state before) holds.holds in
     where_ended laws new before mid.0 (not searched) RoundOpen searched now inner holds.whole holds.asked mid.1 mid.2
-asked_owed laws version old new searched now (command.Answer shown) inner can leads before holds = absurd can
 asked_owed laws version old new searched now asked inner can leads before holds =
     let mid = leads (split_state before) holds.holds in
     let lasts : now ≡ searched_after searched new.asked = subst (λ (e : EngineState). now ≡ searched_after searched e.asked) mid.2.same mid.1.1 in

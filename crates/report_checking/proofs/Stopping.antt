@@ -12,13 +12,14 @@ use Rattle.byte_lines.specs.declared.lines.Next.TheVariants.{Line, TooLong, End}
 use Rattle.round_state.specs.EngineState.{EngineState}
 use Rattle.round_state.specs.Legal.{State}
 use Rattle.round_state.specs.declared.reports.Report.{Report}
-use Rattle.cobra.specs.Outputs.{IsTold}
+use Rattle.cobra.specs.Outputs.{IsTold, Asks}
 use Rattle.cobra.specs.StepReplies.{report_of}
 use Rattle.log_text.specs.declared.names.Names.{Names}
 use Rattle.log_text.specs.declared.versions.Opening.{Opening}
 use Rattle.log_text.specs.declared.versions.Opening.TheVariants.{Ordered, Isolated}
 use Rattle.log_text.specs.declared.versions.Version.{Version}
-use Rattle.report_checking.specs.Isolation.{IsShownBy, names_of, told_by}
+use Rattle.report_checking.specs.Isolation.{names_of, told_by}
+use Rattle.log_text.specs.Shown.{IsShownIn}
 use Rattle.report_checking.specs.OwedLines.{ScriptState}
 use Rattle.report_checking.specs.Reading.{HoldsScript, Finds, FindsNext, EarnsBeside, EarnsIn, IsFairTo, IsFairNext, IsOtherwiseNext, IsRead, StopsOn}
 use Rattle.report_checking.specs.RightReports.{OwesReport, OwesIsolation, OwesReportIn, shown_of, TellsRightReport, IsWrongReply, HasFault}
@@ -44,6 +45,7 @@ earns_isolated : (version : Version) (before : ScriptState) (asked : Command) (r
 earns_isolated version before (command.Finish budget depth workers search) report new owes = (tt, (not_from_false before.searched owes.0, owes.1.earned))
 earns_isolated version before (command.Collect waits) report new owes = (tt, (owes.0, owes.1.earned))
 earns_isolated version before (command.Round budget depth workers search) report new owes = (tt, (owes.0.engine, owes.1.engine, owes.2.earned))
+earns_isolated version before (command.Answer it) report new owes = (tt, (it, shown_self it, owes.engine))
 earns_isolated version before asked report new owes = absurd owes
 
 earns_in : (opening : Opening) (before : ScriptState) (asked : Command) (report : Report) (new : State) → OwesReportIn opening before asked report new → EarnsIn opening before.searched before.state.engine asked report new.engine
@@ -58,9 +60,9 @@ no_right_report (Some script) (Some before) next line stored why holds said fair
     let earned = earns_in before.opening before right.command right.report right.new right.owed in
     let engine = subst (λ (e : EngineState). EarnsIn before.opening before.searched e right.command right.report right.new.engine) (same_engine script.opening script.engine before.state holds.0) earned in
     let searched = subst (λ (s : Bool). EarnsIn before.opening s script.engine right.command right.report right.new.engine) (sym holds.2) engine in
-    fair line said right.command right.asks right.report right.new.engine
+    fair line said right.command (subst (λ (n : Names). Asks n line right.command) names right.asks) right.report right.new.engine
     (subst (λ (o : Opening). EarnsIn o script.searched script.engine right.command right.report right.new.engine) (sym holds.1) searched)
-    (subst (λ (n : Names). IsShownBy n stored (shown_of right.report.certificate)) names right.shows)
+    (subst (λ (n : Names). IsShownIn n stored (shown_of right.report.certificate)) names right.shows)
     (subst (λ (n : Names). stored ≡ text_of (told_by n (report_of right.report))) names right.text_is)
 
 -- what is wrong with the reply that was read behind the line

@@ -36,7 +36,7 @@ use Rattle.engine_pasts.specs.Holding.{EventsStandBehind, HoldsBehind, MovesOn}
 use Rattle.engine_pasts.specs.Laws.{ReportedEventsStandBehind, StepsHoldBehind}
 use Rattle.cobra.specs.Saving.{fragment_told, saved_told}
 use Rattle.cobra.specs.Scripts.{IsBadLine, state_told}
-use Rattle.cobra.specs.StepReplies.{certified, report_of, reply_of}
+use Rattle.cobra.specs.StepReplies.{certified, claim_of, report_of, reply_of}
 use Rattle.cobra.specs.TrueReports.{MovesHalves, TellsTrueOf}
 use Rattle.report_checking.specs.Isolation.{EndsIsolated, EndsWhere, IsIsolatedRound, IsIsolatedStep, IsOwedIsolation, OwesAsked, OwesIsolated, OwesSplit}
 use Rattle.report_checking.specs.Owing.{BeginsSearch, IsPlain}
@@ -207,7 +207,7 @@ module _ (laws : Laws) where
   opened version gone old new (Save asked) answer can is stands =
       unchanged gone old new (Save asked) answer (isolated_of (saved_told old.engine.parts (split_wanted asked))) is.0 is.1 (saved_true gone old.asked old.engine.parts (split_wanted asked)) (saved_moves old.engine.parts (split_wanted asked)) stands
   opened version gone old new (Finish budget depth workers search) answer can is stands = bad gone old new (Finish budget depth workers search) answer is stands
-  opened version gone old new (Answer shown) answer can is stands = bad gone old new (Answer shown) answer is stands
+  opened version gone old new (Answer shown) answer can is stands = by_step 0 gone old new (Answer shown) (step.Judge (claim_of shown)) answer refl tt tt is stands
   opened version gone old new (Start sessions limit other) answer can is stands = bad gone old new (Start sessions limit other) answer is stands
   opened version gone old new (StartIsolated sessions limit other) answer can is stands = bad gone old new (StartIsolated sessions limit other) answer is stands
   opened version gone old new (StartStrict sessions limit other) answer can is stands = bad gone old new (StartStrict sessions limit other) answer is stands

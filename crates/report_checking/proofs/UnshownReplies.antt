@@ -19,7 +19,8 @@ use Rattle.round_state.specs.EngineState.{EngineState}
 use Rattle.round_state.specs.Solving.{IsWrong}
 use Rattle.round_state.specs.declared.steps.Step.{Step}
 use Rattle.isolation_scripts.specs.Splitting.{split_command}
-use Rattle.report_checking.specs.Isolation.{IsShownBy, names_of}
+use Rattle.report_checking.specs.Isolation.{names_of}
+use Rattle.log_text.specs.Shown.{IsShownIn}
 use Rattle.report_checking.specs.OwedLines.{ScriptState}
 use Rattle.report_checking.specs.Reading.{HoldsScript, IsToldOf, IsTakenAs, IsUnshownIn, Unshows, answer_of, isolated_owed, unshown_of}
 use Rattle.report_checking.specs.Unshown.{EndsWrong, IsUnshownTo, ShowsWrongOf}
@@ -32,13 +33,13 @@ use Rattle.report_checking.proofs.ScriptReplies.{same_engine}
 
 -- ---- of a certificate that is wrong
 
-shows_wrong : (names : Names) (stored : List ℕ) (asked : Option Parts) (found : Option Shown) → IsShownBy names stored found → IsSomeAnd asked (λ parts. IsWrong parts (answer_of found)) → ShowsWrongOf names stored asked (unshown_of (answer_of found))
+shows_wrong : (names : Names) (stored : List ℕ) (asked : Option Parts) (found : Option Shown) → IsShownIn names stored found → IsSomeAnd asked (λ parts. IsWrong parts (answer_of found)) → ShowsWrongOf names stored asked (unshown_of (answer_of found))
 shows_wrong names stored None found shows wrong = absurd wrong
 shows_wrong names stored (Some parts) None shows wrong = absurd wrong
 shows_wrong names stored (Some parts) (Some (shown.Order order)) shows wrong = (order, shows, wrong)
 shows_wrong names stored (Some parts) (Some (shown.Refuted tree)) shows wrong = (tree, shows, wrong)
 
-pub unshown_finish : (names : Names) (stored : List ℕ) (asked : Option Parts) (answer : Answer) (why : Unshown) → (found : Option Shown) × IsShownBy names stored found × (answer ≡ answer_of found) → why ≡ unshown_of answer
+pub unshown_finish : (names : Names) (stored : List ℕ) (asked : Option Parts) (answer : Answer) (why : Unshown) → (found : Option Shown) × IsShownIn names stored found × (answer ≡ answer_of found) → why ≡ unshown_of answer
     → IsSomeAnd asked (λ parts. IsWrong parts answer) → ShowsWrongOf names stored asked why
 unshown_finish names stored asked answer why told is wrong =
     subst (ShowsWrongOf names stored asked) (sym (is ∙ ap unshown_of told.2))
@@ -94,9 +95,8 @@ reads_none : read [] ≡ None
 unfolding lex punctuate value
 reads_none = refl
 
-empty_shows : (names : Names) (it : Shown) → IsShownBy names [] (Some it) → ⊥
-empty_shows Ids it is = let no = sym reads_none ∙ is.reads in absurd (let it : ⊥ = cc in it)
-empty_shows Events it is = let no = sym reads_none ∙ is.reads in absurd (let it : ⊥ = cc in it)
+empty_shows : (names : Names) (it : Shown) → IsShownIn names [] (Some it) → ⊥
+empty_shows names it is = let no = sym reads_none ∙ is.reads in absurd (let it : ⊥ = cc in it)
 
 empty_wrong : (names : Names) (asked : Option Parts) (why : Unshown) → ShowsWrongOf names [] asked why → ⊥
 empty_wrong names None why is = is

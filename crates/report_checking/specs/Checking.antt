@@ -8,7 +8,7 @@ use Rattle.log_text.specs.declared.replies.Reply.TheVariants as told
 use Rattle.log_text.specs.Replies.{text_of}
 use Rattle.byte_lines.specs.Lines.{lines}
 use Rattle.cobra.specs.Outputs.{Asks}
-use Rattle.report_checking.specs.OwedLines.{OwesLine, ScriptState}
+use Rattle.report_checking.specs.OwedLines.{OwesLine, ScriptState, names_told}
 use Rattle.report_checking.specs.Telling.{is_unchecked, what_of}
 use Rattle.report_checking.specs.declared.findings.Found.{Found}
 use Rattle.report_checking.specs.declared.findings.Found.TheVariants as found
@@ -55,7 +55,7 @@ left_by command old = old
 -- The stored reply to a command says that memory was wanting, of which nothing is known.
 pub record IsUnchecked (old : Option ScriptState) (line stored : List ℕ) (new : Option ScriptState) : Type 0 where
   pub command : Command
-  pub asks : Asks line command
+  pub asks : Asks (names_told old) line command
   pub takes : TakesMemory old command
   pub text_is : stored ≡ text_of (told.No NoMemory)
   pub left : new ≡ left_by command old

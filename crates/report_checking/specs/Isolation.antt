@@ -1,20 +1,17 @@
 -- Which reply is owed to a line of a script that asks for snapshot isolation: transactions are split, what a report tells is judged by its own
 -- certificate, of begins and commits, and is said of the history as it was offered.
-use Rattle.std.specs.Prelude.{◌≡◌, ◌⊎◌, ℕ, List, Bool, true, false, not, Option, None}
+use Rattle.std.specs.Prelude.{◌≡◌, ◌⊎◌, Bool, true, false, not, Option, None}
 use Rattle.txn.specs.declared.refusals.Refusal.{Refusal}
 use Rattle.txn.specs.declared.refusals.Refusal.TheVariants.{NoRound, RoundOpen}
-use Rattle.event_reports.specs.EventsShown.{IsShownByEvents}
 use Rattle.log_text.specs.declared.commands.Command.{Command}
-use Rattle.log_text.specs.declared.commands.Command.TheVariants.{Offer, Join, Close, Begin, Finish, Round, BeginSearch, Collect, Skip, Truncate, Rebuild, Show, Save}
+use Rattle.log_text.specs.declared.commands.Command.TheVariants.{Offer, Join, Close, Begin, Finish, Round, BeginSearch, Collect, Skip, Truncate, Rebuild, Show, Save, Answer}
 use Rattle.log_text.specs.declared.names.Names.{Names}
 use Rattle.log_text.specs.declared.names.Names.TheVariants.{Ids, Events}
 use Rattle.log_text.specs.declared.replies.Reply.{Reply}
 use Rattle.log_text.specs.declared.replies.Reply.TheVariants as told
-use Rattle.log_text.specs.declared.shown.Shown.{Shown}
 use Rattle.log_text.specs.declared.versions.Opening.{Opening}
 use Rattle.log_text.specs.declared.versions.Opening.TheVariants.{Ordered, Isolated}
 use Rattle.log_text.specs.declared.versions.Version.{Version}
-use Rattle.log_text.specs.Shown.{IsShownIn}
 use Rattle.log_text.specs.Versions.{most_sessions}
 use Rattle.round_state.specs.Legal.{State}
 use Rattle.round_state.specs.declared.reports.Report.{Report}
@@ -28,7 +25,7 @@ use Rattle.isolation_scripts.specs.Legal.{TellsIsolationOf, LegalIsolation}
 use Rattle.isolation_scripts.specs.Splitting.{CanBeAsked, IsAskedFault, split_wanted}
 use Rattle.cobra.specs.Saving.{saved_told}
 use Rattle.cobra.specs.Scripts.{IsBadLine, IsTakenIn, state_told}
-use Rattle.cobra.specs.StepReplies.{reply_of, report_of}
+use Rattle.cobra.specs.StepReplies.{claim_of, reply_of, report_of}
 use Rattle.report_checking.specs.Owing.{IsEarned, BeginsSearch, GoesOn, searched_after}
 
 -- The report of an open round is owed: it is earned, and it tells of the whole history that had been received when the round began: its kind,
@@ -67,6 +64,7 @@ OwesSplit version old (Join logged) answer new = IsTakenIn version (split_logged
 OwesSplit version old (Close session) answer new = IsIsolatedStep old (step.Close session) answer new
 OwesSplit version old Begin answer new = IsIsolatedStep old step.Begin answer new
 OwesSplit version old (Round budget depth workers search) answer new = IsIsolatedRound old answer new
+OwesSplit version old (Answer shown) answer new = IsIsolatedStep old (step.Judge (claim_of shown)) answer new
 OwesSplit version old Truncate answer new = IsIsolatedStep old step.Truncate answer new
 OwesSplit version old Rebuild answer new = IsIsolatedStep old step.Rebuild answer new
 OwesSplit version old Show answer new = (answer ≡ isolated_of (state_told old.engine)) × (new ≡ old)
@@ -97,8 +95,3 @@ names_of (Isolated version) = Events
 abbrev pub told_by : Names → Reply → Reply
 told_by Ids answer = answer
 told_by Events answer = isolated_of answer
-
--- what the text of a report shows, where it is told by these names
-abbrev pub IsShownBy : Names → List ℕ → Option Shown → Type 0
-IsShownBy Ids stored found = IsShownIn stored found
-IsShownBy Events stored found = IsShownByEvents stored found

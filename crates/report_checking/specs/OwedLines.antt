@@ -2,6 +2,8 @@
 use Rattle.std.specs.Prelude.{◌≡◌, ℕ, ◌*◌, ◌⊎◌, Bool, false, List, Option, Some, None}
 use Rattle.log_text.specs.declared.commands.Command.{Command}
 use Rattle.log_text.specs.declared.commands.Command.TheVariants.{Start, StartIsolated, StartStrict, Resume}
+use Rattle.log_text.specs.declared.names.Names.{Names}
+use Rattle.log_text.specs.declared.names.Names.TheVariants.{Ids}
 use Rattle.log_text.specs.declared.replies.Reply.{Reply}
 use Rattle.log_text.specs.declared.replies.Reply.TheVariants as told
 use Rattle.log_text.specs.declared.versions.Opening.{Opening}
@@ -11,7 +13,7 @@ use Rattle.round_state.specs.Legal.{State}
 use Rattle.round_state.specs.Opening.{fresh_state}
 use Rattle.cobra.specs.Outputs.{Asks}
 use Rattle.cobra.specs.Scripts.{AreVersionSessions, IsBadLine, IsIsolatedLimit, IsIsolatedRefusal, IsVersionLimit, IsVersionRefusal}
-use Rattle.report_checking.specs.Isolation.{OwesIsolated}
+use Rattle.report_checking.specs.Isolation.{OwesIsolated, names_of}
 use Rattle.report_checking.specs.Owing.{OwesBeside}
 
 -- A script whose engine is open: the engine, with the history that it stands for, which where transactions are split is as they were offered; what
@@ -20,6 +22,11 @@ pub record ScriptState : Type 0 where
   pub state : State
   pub opening : Opening
   pub searched : Bool
+
+-- how its lines name transactions; by ids, where none is open yet
+abbrev pub names_told : Option ScriptState → Names
+names_told None = Ids
+names_told (Some script) = names_of script.opening
 
 -- What is owed to a command, where none is open yet. To one that begins a hand-over nothing is, since what had gone before isn't
 -- shown; nor to one that asks for strict serializability, of which nothing is checked. An engine whose
@@ -49,5 +56,5 @@ Owes (Some old) command answer None = ⊥
 -- what is owed to a line: that of its command, and BadLine where it is none
 abbrev pub OwesLine : Option ScriptState → List ℕ → Reply → Option ScriptState → Type 0
 OwesLine old line answer new =
-    ((command : Command) × Asks line command × Owes old command answer new)
-    ⊎ (((command : Command) → ¬ Asks line command) × IsBadLine old answer new)
+    ((command : Command) × Asks (names_told old) line command × Owes old command answer new)
+    ⊎ (((command : Command) → ¬ Asks (names_told old) line command) × IsBadLine old answer new)

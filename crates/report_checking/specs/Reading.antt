@@ -41,7 +41,8 @@ use Rattle.cobra.specs.Saving.{saved_told}
 use Rattle.cobra.specs.Scripts.{AreVersionSessions, IsIsolatedLimit, IsIsolatedRefusal, IsVersionLimit, IsVersionRefusal, state_told}
 use Rattle.cobra.specs.StepReplies.{claim_of, report_of, reply_of}
 use Rattle.report_checking.specs.Checking.{IsRightReply, IsUnchecked, TakesMemory, Checks, FindsRight, left_by}
-use Rattle.report_checking.specs.Isolation.{IsShownBy, names_of, told_by}
+use Rattle.report_checking.specs.Isolation.{names_of, told_by}
+use Rattle.log_text.specs.Shown.{IsShownIn}
 use Rattle.report_checking.specs.OwedLines.{Owes, ScriptState}
 use Rattle.report_checking.specs.Owing.{BeginsSearch, IsEarned}
 use Rattle.report_checking.specs.Outcomes.{FindsFirst}
@@ -262,7 +263,7 @@ names_in (Some script) = names_of script.opening
 
 -- Where a report is earned and the stored reply shows its certificate by these names, this is so of its text.
 abbrev pub OfRight : Names → (Report → EngineState → Type 0) → List ℕ → (List ℕ → Type 0) → Type 0
-OfRight names Earned stored P = (report : Report) (new : EngineState) → Earned report new → IsShownBy names stored (shown_of report.certificate) → P (text_of (told_by names (report_of report)))
+OfRight names Earned stored P = (report : Report) (new : EngineState) → Earned report new → IsShownIn names stored (shown_of report.certificate) → P (text_of (told_by names (report_of report)))
 
 -- A reply to the command that is found wrong isn't the text of a right report.
 abbrev pub IsFair : Option OpenScript → Command → List ℕ → Found → Type 0
@@ -271,7 +272,7 @@ IsFair old command stored given = ⊤
 
 -- the same of a reply to what was read
 abbrev pub IsFairTo : Option OpenScript → Next → List ℕ → Found → Type 0
-IsFairTo old next stored (found.Wrong why) = (line : List ℕ) → IsTold line next → (command : Command) → Asks line command → OfRight (names_in old) (EarnsScript old command) stored (λ text. stored ≢ text)
+IsFairTo old next stored (found.Wrong why) = (line : List ℕ) → IsTold line next → (command : Command) → Asks (names_in old) line command → OfRight (names_in old) (EarnsScript old command) stored (λ text. stored ≢ text)
 IsFairTo old next stored given = ⊤
 
 -- and of what was read behind it
@@ -379,8 +380,8 @@ IsOtherwise old command stored given = ⊤
 -- the same of a reply to what was read
 abbrev pub IsOtherwiseTo : Option OpenScript → Next → List ℕ → Found → Type 0
 IsOtherwiseTo old next stored (found.Wrong why) = (line : List ℕ) → IsTold line next →
-    ((command : Command) → Asks line command → IsOtherwise old command stored (found.Wrong why))
-    × (((command : Command) → ¬ Asks line command) → stored ≢ text_of (told.No BadLine))
+    ((command : Command) → Asks (names_in old) line command → IsOtherwise old command stored (found.Wrong why))
+    × (((command : Command) → ¬ Asks (names_in old) line command) → stored ≢ text_of (told.No BadLine))
 IsOtherwiseTo old next stored given = ⊤
 
 -- and of what was read behind it

@@ -20,7 +20,8 @@ use Rattle.isolation_scripts.specs.Legal.{LegalIsolation}
 use Rattle.cobra.specs.Outputs.{Asks}
 use Rattle.cobra.specs.StepReplies.{claim_of, report_of}
 use Rattle.report_checking.specs.Checking.{Checks, IsRightReply, IsUnchecked}
-use Rattle.report_checking.specs.Isolation.{IsOwedIsolation, IsShownBy, names_of, told_by}
+use Rattle.report_checking.specs.Isolation.{IsOwedIsolation, names_of, told_by}
+use Rattle.log_text.specs.Shown.{IsShownIn}
 use Rattle.report_checking.specs.OwedLines.{OwesLine, ScriptState}
 use Rattle.report_checking.specs.Owing.{IsOwedReport}
 use Rattle.report_checking.specs.Unshown.{IsUnshown}
@@ -48,6 +49,7 @@ abbrev pub OwesIsolation : ScriptState → Command → Report → State → Type
 OwesIsolation old (Finish budget depth workers search) report new = (old.searched ≡ false) × IsOwedIsolation old.state report new
 OwesIsolation old (Collect waits) report new = (old.searched ≡ true) × IsOwedIsolation old.state report new
 OwesIsolation old (Round budget depth workers search) report new = (begun : State) × LegalIsolation old.state step.Begin reply.Done begun × IsOwedIsolation begun report new
+OwesIsolation old (Answer handed) report new = LegalIsolation old.state (step.Judge (claim_of handed)) (reply.Report report) new
 OwesIsolation old command report new = ⊥
 
 -- by what the script asks
@@ -56,16 +58,15 @@ OwesReportIn (Ordered version) old command report new = OwesReport old command r
 OwesReportIn (Isolated version) old command report new = OwesIsolation old command report new
 
 -- The stored reply to the line is a right report: it is the text of one that is owed, whatever its certificate, and it shows that
--- certificate: an order or a tree by ids, or by begins and commits. The text that `write_reply` wrote of a report by ids does, where it names
--- sessions up to 255 and its tree is merged.
+-- certificate: an order or a tree by ids, or by begins and commits. The text that `write_reply` wrote of a report does, where that can be read.
 pub record IsRightReport (old : ScriptState) (line stored : List ℕ) : Type 0 where
   pub command : Command
-  pub asks : Asks line command
+  pub asks : Asks (names_of old.opening) line command
   pub report : Report
   pub new : State
   pub owed : OwesReportIn old.opening old command report new
   pub text_is : stored ≡ text_of (told_by (names_of old.opening) (report_of report))
-  pub shows : IsShownBy (names_of old.opening) stored (shown_of report.certificate)
+  pub shows : IsShownIn (names_of old.opening) stored (shown_of report.certificate)
 
 -- the same of a script
 abbrev pub TellsRightReport : Option ScriptState → List ℕ → List ℕ → Type 0

@@ -15,7 +15,7 @@ use Rattle.cobra.specs.Outputs.{Asks}
 use Rattle.cobra.specs.Scripts.{IsBadLine}
 use Rattle.cobra.specs.TrueReports.{IsKeptSplit, MovesHalves, MovesTxns, TellsTrueOf}
 use Rattle.report_checking.specs.Checking.{Checks, IsUnchecked}
-use Rattle.report_checking.specs.OwedLines.{Owes, ScriptState}
+use Rattle.report_checking.specs.OwedLines.{Owes, ScriptState, names_told}
 use Rattle.report_checking.specs.Telling.{what_of}
 use Rattle.report_checking.specs.declared.findings.Found.{Found}
 use Rattle.report_checking.specs.declared.findings.Found.TheVariants as found
@@ -49,8 +49,8 @@ IsTrueTold (Some old) gone command answer ahead = TellsTrueOf true (Some gone) (
 -- The reply is owed to the line, and true.
 abbrev pub TellsTrue : Option ScriptState → List TxnId → List ℕ → Reply → List TxnId → Option ScriptState → Type 0
 TellsTrue old gone line answer ahead new =
-    ((command : Command) × Asks line command × Owes old command answer new × IsTrueTold old gone command answer ahead)
-    ⊎ (((command : Command) → ¬ Asks line command) × IsBadLine old answer new × (ahead ≡ []))
+    ((command : Command) × Asks (names_told old) line command × Owes old command answer new × IsTrueTold old gone command answer ahead)
+    ⊎ (((command : Command) → ¬ Asks (names_told old) line command) × IsBadLine old answer new × (ahead ≡ []))
 
 -- From the beginning of a script on: lines and stored replies by turns, each of which is owed and true, or says that memory was wanting; what is gone,
 -- in an order that a cut makes longer and nothing else changes; and what is kept, which remains behind that. And what is found of the replies.

@@ -14,15 +14,16 @@ use Rattle.round_state.specs.Steps.{StepsTo}
 use Rattle.round_state.specs.declared.steps.Step.TheVariants as step
 use Rattle.round_state.specs.declared.steps.StepReply.TheVariants as reply
 use Rattle.cobra.specs.Outputs.{Asks}
-use Rattle.report_checking.specs.Isolation.{IsShownBy, names_of}
-use Rattle.report_checking.specs.OwedLines.{ScriptState}
+use Rattle.report_checking.specs.Isolation.{names_of}
+use Rattle.log_text.specs.Shown.{IsShownIn}
+use Rattle.report_checking.specs.OwedLines.{ScriptState, names_told}
 use Rattle.report_checking.specs.declared.findings.Unshown.{Unshown}
 use Rattle.report_checking.specs.declared.findings.Unshown.TheVariants as unshown
 
 -- The stored reply shows by these names an order that doesn't explain the snapshot, or a tree that doesn't refute it.
 abbrev pub ShowsWrong : Names → List ℕ → Parts → Unshown → Type 0
-ShowsWrong names stored parts unshown.Order = (order : List TxnId) × IsShownBy names stored (Some (shown.Order order)) × (¬ Explains parts order)
-ShowsWrong names stored parts unshown.Refutation = (tree : Tree) × IsShownBy names stored (Some (shown.Refuted tree)) × (¬ IsRefutation parts tree)
+ShowsWrong names stored parts unshown.Order = (order : List TxnId) × IsShownIn names stored (Some (shown.Order order)) × (¬ Explains parts order)
+ShowsWrong names stored parts unshown.Refutation = (tree : Tree) × IsShownIn names stored (Some (shown.Refuted tree)) × (¬ IsRefutation parts tree)
 ShowsWrong names stored parts unshown.Beginning = ⊥
 ShowsWrong names stored parts unshown.Strict = ⊥
 
@@ -48,5 +49,5 @@ IsUnshownTo (Some old) command stored why = EndsWrong (names_of old.opening) old
 -- the same of a line
 pub record IsUnshown (old : Option ScriptState) (line stored : List ℕ) (why : Unshown) : Type 0 where
   pub command : Command
-  pub asks : Asks line command
+  pub asks : Asks (names_told old) line command
   pub is : IsUnshownTo old command stored why

@@ -3,10 +3,9 @@
 ghost use Rattle.std.specs.Prelude.{◌≡◌, Option, IfOk};
 ghost use Rattle.log_text.specs.ReadBack.{IsSameShown};
 ghost use Rattle.log_text.specs.declared.shown.Shown.{Shown};
-ghost use Rattle.report_checking.specs.Isolation.{IsShownBy};
+ghost use Rattle.log_text.specs.Shown.{IsShownIn};
 ghost use Rattle.report_checking.specs.Reading.{IsAnswerOf, answer_of};
 
-use event_reports::read_events;
 use log_text::{Names, Shown, read_shown};
 use polygraph::Answer;
 use std::alloc::Global;
@@ -24,21 +23,10 @@ fn as_answer(found: Option<Shown>) -> Answer
     }
 }
 
-/// What the reply shows, where it tells of transactions by these names.
-fn shown_by(alloc: Global, names: Names, stored: &[u8]) -> Result<Option<Shown>, NoMemory>
-    ensures shown { IfOk result (IsShownBy names stored.now) }
-    ensures only { IfOk result (λ found. (shown : Option Shown) → IsShownBy names stored.now shown → IsSameShown found shown) }
-{
-    match names {
-        Names::Ids => read_shown(alloc, stored),
-        Names::Events => read_events(alloc, stored),
-    }
-}
-
 /// The answer of a search that this reply tells: the order or the tree that it shows, and Spent where it shows neither.
 pub(crate) fn answer_told(alloc: Global, names: Names, stored: &[u8]) -> Result<Answer, NoMemory>
-    ensures shown { IfOk result (λ answer. (found : Option Shown) × IsShownBy names stored.now found × (answer ≡ answer_of found)) }
-    ensures only { IfOk result (λ answer. (shown : Option Shown) → IsShownBy names stored.now shown → IsAnswerOf shown answer) }
+    ensures shown { IfOk result (λ answer. (found : Option Shown) × IsShownIn names stored.now found × (answer ≡ answer_of found)) }
+    ensures only { IfOk result (λ answer. (shown : Option Shown) → IsShownIn names stored.now shown → IsAnswerOf shown answer) }
 {
-    Ok(as_answer(shown_by(alloc, names, stored)?))
+    Ok(as_answer(read_shown(alloc, names, stored)?))
 }

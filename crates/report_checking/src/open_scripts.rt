@@ -48,6 +48,16 @@ impl OpenScript {
         }
     }
 
+    /// How its lines name transactions.
+    pub(crate) fn names(&self) -> Names
+        ensures { result ≡ names_of self.now.opening }
+    {
+        match self.opening {
+            Opening::Ordered(_) => Names::Ids,
+            Opening::Isolated(_) => Names::Events,
+        }
+    }
+
     /// Whether a search was begun that isn't collected yet.
     pub(crate) fn is_searched(&self) -> bool
         ensures { result ≡ self.now.searched }

@@ -12,7 +12,7 @@ use crate::open_scripts::OpenScript;
 use crate::replayed::Replayed;
 use byte_lines::Next;
 use cobra::command_in;
-use log_text::{Command, Opening, Reply, Version, write_reply};
+use log_text::{Command, Names, Opening, Reply, Version, write_reply};
 use std::alloc::{AllocError, Global};
 use txn::{NoMemory, Refusal};
 
@@ -38,6 +38,16 @@ impl Replay {
         ensures { result.script ≡ None }
     {
         Replay { script: None }
+    }
+
+    /// How lines name transactions.
+    fn names(&self) -> Names
+        ensures { result ≡ names_in self.now.script }
+    {
+        match &self.script {
+            Some(script) => script.names(),
+            None => Names::Ids,
+        }
     }
 
     /// Whether the command may be refused for want of memory.
@@ -221,7 +231,7 @@ impl Replay {
         ensures fair { IfOk result (λ found. IsFairTo self.old.script next.now stored.now found) }
         ensures otherwise { IfOk result (λ found. IsOtherwiseTo self.old.script next.now stored.now found) }
     {
-        match command_in(alloc, next)? {
+        match command_in(alloc, self.names(), next)? {
             Some(command) => self.check_command(alloc, command, stored),
             None => found_by(alloc, &Reply::No(Refusal::BadLine), stored),
         }

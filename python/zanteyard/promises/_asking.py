@@ -17,7 +17,8 @@ OPENS = {"open", "resume"}
 STRICTLY = {"open", "offer", "round"}  # the commands of scripts about strict serializability
 PARTS = "a script that continues another one is about the promise that its first line asks for"
 ANSWERS = (
-    "an answer from elsewhere is about serializability: remove the line, and the round is searched"
+    "an answer from elsewhere is about the promise that the script itself asks for: remove the "
+    "line, and the round is searched"
 )
 
 
@@ -130,7 +131,7 @@ class Asking:
         word = line[0] if line and isinstance(line[0], str) else ""
         if word in OPENS:
             return [self._opening(line)]
-        if word == "answer" and self.promise.asks_itself and self._own != SNAPSHOT:
+        if word == "answer" and (self._own == SNAPSHOT) != self.promise.asks_itself:
             raise CantBeAskedError(ANSWERS)
         if word in ("offer", "join") and is_of_transactions(line):
             return [*self._offered(line)]

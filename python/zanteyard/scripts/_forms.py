@@ -41,8 +41,9 @@ class Part(NamedTuple):
 Form = Callable[[Part], None]  # raises Unexpected
 
 
-def mistake_of(line: bytes) -> str:
-    """What is wrong with the line's form; empty if nothing is."""
+def mistake_of(line: bytes, is_isolated: bool = False) -> str:
+    """What is wrong with the form of a line in a script, which may be one that asks for snapshot
+    isolation; empty if nothing is."""
     if len(line) > LONGEST:
         return f"it has {len(line):,} bytes, and a line has at most {LONGEST:,}"
     try:
@@ -55,7 +56,7 @@ def mistake_of(line: bytes) -> str:
         end = _past_space(text, end)
         if end < len(text):
             raise Unexpected(end + 1, "the end of the line", visible(text[end:], SHOWN))
-        _command(part)
+        _command(part, is_isolated)
     except Unexpected as error:
         return str(error)
     return ""
@@ -207,6 +208,8 @@ TIMES = (
 OFFER = (SESSION, FIRST, TRANSACTIONS)
 MARKS = (_each("the marks", NUMBER), _each("which sessions are closed", _flag))
 IDS = _each("the order", _row("a transaction: [session,number]", (SESSION, NUMBER)))
+EVENT = (SESSION, _whole("a transaction's number", 0, 2**63 - 1), _word("begin", "commit"))
+EVENTS = _each("the order", _row('an event: [session,number,"begin"] or "commit"', EVENT))
 LAST = _row("a last writer: [key,session,number]", (KEY, SESSION, NUMBER))
 FORMS: Mapping[str, Sequence[Sequence[Form]]] = {
     "open": OPENS,
@@ -222,20 +225,25 @@ FORMS: Mapping[str, Sequence[Sequence[Form]]] = {
     "marks": (MARKS, (*MARKS, _each("in which a begin is gone", _flag))),
     "last": ((_each("the last writers", LAST),),),
 }
-ANSWERS: Mapping[str, Form] = {"order": IDS, "refuted": _each("the refutation", _any)}
+REFUTED = _each("the refutation", _any)
+ANSWERS: Mapping[bool, Mapping[str, Form]] = {  # by whether the script is about snapshot isolation
+    False: {"order": IDS, "refuted": REFUTED},
+    True: {"order": EVENTS, "refuted": REFUTED},
+}
 SAVES: Mapping[str, Sequence[Form]] = {"marks": (), "last": (KEY,), "remain": (SESSION, NUMBER)}
 COMMANDS = sorted([*FORMS, "answer", "save"])
 
 
-def _command(line: Part) -> None:
+def _command(line: Part, is_isolated: bool) -> None:
     if line.parts is None:
         raise line.unexpected('a list, as ["round",4096,0,1]')
     if not line.parts:
         raise Unexpected(line.at + 2, "a command", "an empty list")
     name, parts = line.parts[0], line.parts[1:]
     if name.value == "answer":
-        _match(line, parts, f"{name.text} after its name", ((_word(*ANSWERS), _any),))
-        ANSWERS[parts[0].value](parts[1])
+        forms = ANSWERS[is_isolated]
+        _match(line, parts, f"{name.text} after its name", ((_word(*forms), _any),))
+        forms[parts[0].value](parts[1])
     elif name.value == "save":
         if not parts:
             raise Unexpected(line.at + len(line.text), "what to save", "]")

@@ -490,7 +490,8 @@ class ScriptRun:
         if self._asking.is_told and refusal in OF_STRICTNESS:
             return OF_STRICTNESS[refusal]
         if refusal == "BadLine":
-            return mistake_of(text) or self._misplaced(_parts_of(text)) or ADVICE[refusal]
+            mistake = mistake_of(text, self.promise.asks_itself)
+            return mistake or self._misplaced(_parts_of(text)) or ADVICE[refusal]
         return ADVICE.get(refusal, "")
 
     def _misplaced(self, line: Sequence[Any]) -> str:

@@ -4,7 +4,7 @@ use Rattle.log_text.proofs.TokensRead.{ok_then, array_then, array_none}
 use Rattle.log_text.proofs.answers.read_order.Goals as goal
 
 pub returns-then-takes_array : goal.returns-then-takes_array
-returns-then-takes_array c = ok_then c.rest_of_ids.result (λ found rest. array_then (each_of id_of) 1 _ _ _ found c.if-takes_array.ensures rest) c.rest_of_ids.ensures
+returns-then-takes_array c = ok_then c.rest_of_ids.result (λ found rest. array_then (each_of (id_of c.args.names)) 1 _ _ _ found c.if-takes_array.ensures rest) c.rest_of_ids.ensures
 
 pub returns-else-takes_array : goal.returns-else-takes_array
-returns-else-takes_array c = array_none (each_of id_of) 2 _ _ c.if-takes_array.ensures
+returns-else-takes_array c = array_none (each_of (id_of c.args.names)) 2 _ _ c.if-takes_array.ensures

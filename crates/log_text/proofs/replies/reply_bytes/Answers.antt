@@ -14,4 +14,4 @@ pub returns-clause-reads_back : goal.returns-clause-reads_back
 returns-clause-reads_back c = saved_is_command _ c.args.reply.now (returns-clause-says c)
 
 pub returns-clause-report_reads_back : goal.returns-clause-report_reads_back
-returns-clause-report_reads_back c = report_back _ c.args.reply.now (returns-clause-says c)
+returns-clause-report_reads_back c = report_back c.stars_are_of_keys.ensures _ c.args.reply.now (returns-clause-says c)

@@ -5,4 +5,4 @@ use Rattle.log_text.specs.Shown.{id_of}
 use Rattle.log_text.proofs.shown.order_of.Given as goal
 
 abbrev pub invariant-loop-item : goal.invariant-loop-item
-invariant-loop-item l = each_of id_of (items_view (take l.item-index l.item-items)) ≡ Some l.order.items
+invariant-loop-item l = each_of (id_of l.names) (items_view (take l.item-index l.item-items)) ≡ Some l.order.items

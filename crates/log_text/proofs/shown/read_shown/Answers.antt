@@ -11,4 +11,4 @@ returns-in-Ok-from_str-clause-only c =
     let text = c.args.reply.now in
     let utf8 : IsUtf8 text = search rules in
     let reads : read text ≡ Some (view c.in-Ok-from_str.value) = search rules in
-    IfOk-weaker c.report_of.result _ _ (λ found is other. same_shown text found other (shown_in text (view c.in-Ok-from_str.value) utf8 reads found is)) c.report_of.ensures
+    IfOk-weaker c.report_of.result _ _ (λ found is other. same_shown c.args.names text found other (shown_in c.args.names text (view c.in-Ok-from_str.value) utf8 reads found is)) c.report_of.ensures

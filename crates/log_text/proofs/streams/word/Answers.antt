@@ -1,5 +1,5 @@
 use Rattle.std.proofs.Common.{refl}
-use Rattle.log_text.specs.Streams.{word_of}
+use Rattle.log_text.specs.Numbers.{word_of}
 use Rattle.log_text.proofs.TokensRead.{token_read, no_token_read}
 use Rattle.log_text.proofs.streams.word.Goals as goal
 

@@ -7,7 +7,7 @@ use Rattle.log_text.proofs.FormsRead.{few_some}
 use Rattle.log_text.proofs.tree_tokens.read_choice.Goals as goal
 
 pub returns-in-Some : goal.returns-in-Some
-returns-in-Some c = few_some choice_in 7 1 _ _ _ _ _ choice_takes_few (rw c.in-Some.is at c.in_ok-values.ensures) (ap items_view c.as_slice.ensures.value) c.choice_in.ensures
+returns-in-Some c = few_some (choice_in c.args.names) 10 1 _ _ _ _ _ (choice_takes_few c.args.names) (rw c.in-Some.is at c.in_ok-values.ensures) (ap items_view c.as_slice.ensures.value) c.choice_in.ensures
 
 pub returns-in-None : goal.returns-in-None
-returns-in-None c = few_array_not choice_in 7 1 _ _ choice_takes_few (rw c.in-None.is at c.in_ok-values.ensures)
+returns-in-None c = few_array_not (choice_in c.args.names) 10 1 _ _ (choice_takes_few c.args.names) (rw c.in-None.is at c.in_ok-values.ensures)

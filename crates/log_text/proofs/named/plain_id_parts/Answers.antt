@@ -1,11 +1,8 @@
-use Rattle.std.proofs.Common.{ℕ, refl, arith}
-use Rattle.txn.specs.declared.transactions.TxnId.{TxnId}
+use Rattle.std.proofs.Common.{refl, arith}
+use Rattle.log_text.specs.Named.{id_with}
 use Rattle.log_text.specs.Numbers.{whole_number, session_of}
 use Rattle.log_text.proofs.FormsRead.{two_none, two_then, one_none, one_over, one_open}
-use Rattle.log_text.proofs.answers.read_id_parts.Goals as goal
-
-abbrev id_with : ℕ → ℕ → TxnId
-id_with s n = record { session = s; number = n }
+use Rattle.log_text.proofs.named.plain_id_parts.Goals as goal
 
 pub returns-in_default : goal.returns-in_default
 returns-in_default c = two_none id_with session_of whole_number 0 0 _ _ _ _ (omega arith) refl c.in_default.ensures

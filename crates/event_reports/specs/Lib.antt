@@ -1,3 +1,0 @@
-pub mod EventsShown
-pub mod Halved
-pub mod Laws
