@@ -1,9 +1,10 @@
 -- Ids of a fragment, and graphs with a mark.
 use Rattle.std.proofs.Common.{◌≡◌, ℕ, ◌+◌, ◌<◌, ◌≤◌, ◌∷◌, ◌++◌, [], List, Result, Ok, Err, length, get_or, sym, ap, subst, inl, inr, arith, Contains}
-use Rattle.std.specs.Prelude.{OnErr}
+use Rattle.std.specs.Prelude.{◌↔◌, OnErr}
 use Rattle.std.proofs.lemmas.Bool.{cases_eq}
 use Rattle.std.proofs.lemmas.List.Elements.{Contains-append_left, Contains-push, Contains-push_cases}
 use Rattle.txn.specs.declared.transactions.TxnId.{TxnId}
+use Rattle.txn.specs.declared.choices.Arc.{Arc}
 use Rattle.order_check.specs.declared.remainder.Parts.{Parts}
 use Rattle.session_clocks.specs.Graphs.{GraphState}
 use Rattle.clock_choices.specs.declared.steps.Forced.{Forced}
@@ -32,6 +33,24 @@ ids_one_more session first count number ids at are = record { each = each; all =
       | inl last ↦ subst (λ (one : TxnId). Contains (ids ++ new ∷ []) one) (λ i. record { session = sym same i; number = sym last i }) (Contains-push ids new)
       | inr apart ↦ Contains-append_left ids (new ∷ []) id (are.all id same low (omega (arith, at, high)))
     ]
+
+-- in whatever order
+pub ids_spread : (session first count : ℕ) (ids spread : List TxnId) → ((id : TxnId) → Contains spread id ↔ Contains ids id) → AreIdsFrom session first count ids → AreIdsFrom session first count spread
+ids_spread session first count ids spread same are = record {
+  each = λ id there. are.each id ((same id).0 there);
+  all = λ id in_session low high. (same id).1 (are.all id in_session low high);
+}
+
+-- a relation goes on by the same transactions in another order
+pub goes_on_spread : (parts more : Parts) (gone few received : List ℕ) (arcs : List Arc) (steps : List Forced) (session count : ℕ) (ids spread : List TxnId) → ((id : TxnId) → Contains spread id ↔ Contains ids id)
+    → GoesOn parts more gone few received arcs steps session count ids → GoesOn parts more gone few received arcs steps session count spread
+goes_on_spread parts more gone few received arcs steps session count ids spread same goes = record {
+  are = goes.are;
+  held = goes.held;
+  nodes = goes.nodes;
+  ids = ids_spread session (get_or few session 0) count ids spread same goes.ids;
+  over = goes.over;
+}
 
 -- what holds either way holds where there is an error
 pub either_way : {T E P : Type 0} (result : Result T E) → P → OnErr result P

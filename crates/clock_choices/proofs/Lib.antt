@@ -14,6 +14,7 @@ pub mod FirstOpens
 pub mod FullLogs
 pub mod Growing
 pub mod Growths
+pub mod Halves
 pub mod InLists
 pub mod Indexed
 pub mod LeftSteps

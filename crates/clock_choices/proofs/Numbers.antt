@@ -18,6 +18,11 @@ abbrev pub AreTwo : ℕ → List ℕ → TxnId → TxnId → (ℕ → Type 0) �
 AreTwo session numbers reader writer Has from to = (k : ℕ) → from ≤ k → k < to → Has (get_or numbers k 0)
     → (record { session = session; number = get_or numbers k 0 } ≡ reader) ⊎ (record { session = session; number = get_or numbers k 0 } ≡ writer)
 
+-- each of these places has one of the two
+abbrev pub HaveTwo : ℕ → List ℕ → TxnId → TxnId → ℕ → ℕ → Type 0
+HaveTwo session numbers reader writer from to = (k : ℕ) → from ≤ k → k < to
+    → (record { session = session; number = get_or numbers k 0 } ≡ reader) ⊎ (record { session = session; number = get_or numbers k 0 } ≡ writer)
+
 module _ (session : ℕ) (numbers : List ℕ) (reader writer : TxnId) where
   -- the transaction at a place
   abbrev at : ℕ → TxnId
@@ -67,9 +72,12 @@ module _ (session : ℕ) (numbers : List ℕ) (reader writer : TxnId) where
           | inr high ↦ high
         ]
 
-    -- none behind those below it is
-    pub two_behind : AreTwo session numbers reader writer (λ n. n < bound) count (length numbers)
-    two_behind k from within low = let high = are.high k from within in absurd (omega (arith, high, low))
+    -- of the places behind the count none has a number below the bound
+    pub two_below : (place : ℕ) → HaveTwo session numbers reader writer place count → AreTwo session numbers reader writer (λ n. n < bound) place (length numbers)
+    two_below place two k from within low = elim (cases_lt k count) [
+      | inl front ↦ two k from front
+      | inr behind ↦ absurd (let high = are.high k behind within in omega (arith, high, low))
+    ]
 
     pub first_third : (place : ℕ) → count ≤ place → place < length numbers → AreTwo session numbers reader writer (λ n. bound ≤ n) 0 place → at place ≢ reader → at place ≢ writer → IsFirstThird session numbers reader writer bound (at place)
     first_third place from within two not_reader not_writer = record {
@@ -93,5 +101,9 @@ module _ (session : ℕ) (numbers : List ℕ) (reader writer : TxnId) where
           | inr high ↦ absurd (not_third found.0 other third found.2 (two found.0 (omega arith) found.1 (omega (arith, number, high))))
         ]
 
-    pub two_before : AreTwo session numbers reader writer (λ n. bound ≤ n) 0 count
-    two_before k from within high = let low = are.low k within in absurd (omega (arith, high, low))
+    -- nor has one before it a number from the bound on
+    pub two_from : (place : ℕ) → HaveTwo session numbers reader writer count place → AreTwo session numbers reader writer (λ n. bound ≤ n) 0 place
+    two_from place two k from below high = elim (cases_lt k count) [
+      | inl front ↦ absurd (let low = are.low k front in omega (arith, high, low))
+      | inr behind ↦ two k behind below
+    ]

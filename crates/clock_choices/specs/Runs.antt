@@ -1,5 +1,5 @@
 -- For private clauses: the writers of a key, session by session.
-use Rattle.std.specs.Prelude.{◌≡◌, ◌≢◌, ◌<◌, ◌≤◌, ℕ, List, Contains, length, slice_index}
+use Rattle.std.specs.Prelude.{◌≡◌, ◌≢◌, ◌+◌, ◌<◌, ◌≤◌, ℕ, List, Contains, length, slice_index}
 use Rattle.txn.specs.declared.transactions.TxnId.{TxnId}
 
 -- each number is above all before it
@@ -11,6 +11,12 @@ pub record AreBelow (numbers : List ℕ) (bound count : ℕ) : Type 0 where
   pub within : count ≤ length numbers
   pub low : (k : ℕ) → k < count → slice_index numbers k < bound
   pub high : (k : ℕ) → count ≤ k → k < length numbers → bound ≤ slice_index numbers k
+
+-- so many at the front are below this, and none behind so many more
+pub record IsBetween (numbers : List ℕ) (bound count more : ℕ) : Type 0 where
+  pub within : count + more ≤ length numbers
+  pub low : (k : ℕ) → k < count → slice_index numbers k < bound
+  pub high : (k : ℕ) → count + more ≤ k → k < length numbers → bound ≤ slice_index numbers k
 
 -- a transaction of the session with one of the numbers, which is neither of the two
 pub record IsThird (session : ℕ) (numbers : List ℕ) (reader writer other : TxnId) : Type 0 where

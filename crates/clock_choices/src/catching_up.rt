@@ -17,6 +17,7 @@ use crate::linking::link_txns;
 use crate::nodes::{add_nodes, remove_nodes};
 use crate::passing::note_txns;
 use crate::saturating::saturate;
+use crate::spread::spread_of;
 use crate::steps::Forced;
 use order_check::Parts;
 use session_clocks::Graph;
@@ -52,7 +53,9 @@ fn bring_up(
 ) -> Result<(), NoMemory>
     requires index { IsIndex more.now index.now }
     requires sessions { length graph.old.gone ≡ length more.now.remain }
-    requires goes_on { (parts : Parts) × (few : List ℕ) × (session : ℕ) × (count : ℕ) × GoesOn parts more.now graph.old.gone few graph.old.received graph.old.arcs steps.old.items session count new.now × (first ≡ slice_index few session) }
+    requires goes_on { (parts : Parts) × (few : List ℕ) × (session : ℕ) × (count : ℕ)
+        × GoesOn parts more.now graph.old.gone few graph.old.received graph.old.arcs steps.old.items session count new.now
+        × (first ≡ slice_index few session) }
     ensures gone { graph.new.gone ≡ graph.old.gone }
     ensures received { graph.new.received ≡ graph.old.received }
     ensures mark { last_mark graph.new ≡ last_mark graph.old }
@@ -77,6 +80,32 @@ fn bring_up(
     Ok(())
 }
 
+/// The same, with the new transactions spread. On a cycle that matters most: the last of a session that comes onto it has all before it there.
+fn bring_up_spread(
+    alloc: Global,
+    more: &Parts,
+    index: &Index,
+    graph: &mut Graph,
+    steps: &mut Vec<Forced>,
+    first: u64,
+    new: &[TxnId],
+) -> Result<(), NoMemory>
+    requires index { IsIndex more.now index.now }
+    requires sessions { length graph.old.gone ≡ length more.now.remain }
+    requires goes_on { (parts : Parts) × (few : List ℕ) × (session : ℕ) × (count : ℕ)
+        × GoesOn parts more.now graph.old.gone few graph.old.received graph.old.arcs steps.old.items session count new.now
+        × (first ≡ slice_index few session) }
+    ensures gone { graph.new.gone ≡ graph.old.gone }
+    ensures received { graph.new.received ≡ graph.old.received }
+    ensures mark { last_mark graph.new ≡ last_mark graph.old }
+    ensures held { OnOk result (IsHeld more.now graph.new.gone graph.new.received graph.new.arcs steps.new.items) }
+    ensures logged { OnOk result (AreNewBehind more.now (map bare steps.old.items) (map bare steps.new.items)) }
+    ensures err { OnErr result (steps.new.items ≡ steps.old.items) }
+{
+    let spread = spread_of(alloc, graph.gone(), graph.received(), new)?;
+    bring_up(alloc, more, index, graph, steps, first, &spread)
+}
+
 /// The same; where memory is refused, the graph and the steps are as they were.
 fn go_on(
     alloc: Global,
@@ -89,7 +118,9 @@ fn go_on(
 ) -> Result<(), NoMemory>
     requires index { IsIndex more.now index.now }
     requires sessions { length graph.old.gone ≡ length more.now.remain }
-    requires goes_on { (parts : Parts) × (few : List ℕ) × (session : ℕ) × (count : ℕ) × GoesOn parts more.now graph.old.gone few graph.old.received graph.old.arcs steps.old.items session count new.now × (first ≡ slice_index few session) }
+    requires goes_on { (parts : Parts) × (few : List ℕ) × (session : ℕ) × (count : ℕ)
+        × GoesOn parts more.now graph.old.gone few graph.old.received graph.old.arcs steps.old.items session count new.now
+        × (first ≡ slice_index few session) }
     ensures gone { graph.new.gone ≡ graph.old.gone }
     ensures received { graph.new.received ≡ graph.old.received }
     ensures held { OnOk result (IsHeld more.now graph.new.gone graph.new.received graph.new.arcs steps.new.items) }
@@ -97,7 +128,7 @@ fn go_on(
     ensures err { OnErr result ((steps.new.items ≡ steps.old.items) × (graph.new.arcs ≡ graph.old.arcs)) }
 {
     graph.mark()?;
-    match bring_up(alloc, more, index, graph, steps, first, new) {
+    match bring_up_spread(alloc, more, index, graph, steps, first, new) {
         Ok(()) => {
             graph.forget_marks();
             Ok(())

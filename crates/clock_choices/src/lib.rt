@@ -26,6 +26,7 @@ mod saturating;
 mod settling;
 mod sharing;
 mod spans;
+mod spread;
 mod steps;
 mod whole;
 mod writers;

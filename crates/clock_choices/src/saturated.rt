@@ -213,7 +213,8 @@ impl Saturated {
     /// The cycle that the other side of a step would close, where the sides of the steps before it are taken.
     pub fn cycle_of(&self, alloc: Global, place: usize) -> Result<Sequence<Arc>, NoMemory>
         requires { place < length self.now.log }
-        ensures { IfOk result (λ cycle. (step : ForceStep) → slice_get self.now.log place ≡ Some step → IsForced self.now.parts (sides_after [] (take place self.now.log)) (record step { cycle = cycle })) }
+        ensures { IfOk result (λ cycle. (step : ForceStep) → slice_get self.now.log place ≡ Some step
+            → IsForced self.now.parts (sides_after [] (take place self.now.log)) (record step { cycle = cycle })) }
     {
         let step = self.steps[place];
         cycle_of_step(alloc, &self.parts, &self.graph, step)

@@ -11,7 +11,7 @@ ghost use Rattle.clock_choices.specs.Runs.{Climbs, IsThird};
 ghost use Rattle.clock_choices.specs.Steps.{premise_of, conclusion_of};
 
 use crate::reads::Read;
-use crate::runs::{Run, first_from, last_below};
+use crate::runs::{Run, count_below, count_below_near, first_behind, last_in};
 use crate::steps::Forced;
 use session_clocks::Graph;
 use std::alloc::Global;
@@ -61,7 +61,8 @@ pub(crate) fn choice_of(read: Read, other: TxnId) -> Choice
     }
 }
 
-/// Settles what a session has before the reader: the last one stands before the writer.
+/// Settles what a session has before the reader: the last one stands before the writer. It says how many of the numbers stand before the reader,
+/// if that was looked up: nothing is promised of it.
 fn settle_before(
     alloc: Global,
     graph: &mut Graph,
@@ -70,7 +71,7 @@ fn settle_before(
     read: Read,
     session: u8,
     numbers: &[u64],
-) -> Result<(), NoMemory>
+) -> Result<usize, NoMemory>
     requires climbs { Climbs numbers.now }
     requires session { session < length graph.old.gone }
     requires reader { HasNode graph.old read.reader }
@@ -89,13 +90,14 @@ fn settle_before(
     let bound = graph.before(read.reader, session);
     let done = graph.before(read.writer, session);
     if bound <= done {
-        return Ok(());
+        return Ok(0);
     }
-    let Some(last) = last_below(session, numbers, read.reader, read.writer, bound) else {
-        return Ok(());
+    let count = count_below(numbers, bound);
+    let Some(last) = last_in(session, numbers, read.reader, read.writer, count) else {
+        return Ok(count);
     };
     if last.number < done {
-        return Ok(());
+        return Ok(count);
     }
     force(
         alloc,
@@ -104,10 +106,12 @@ fn settle_before(
         told,
         choice_of(read, last),
         Side::First,
-    )
+    )?;
+    Ok(count)
 }
 
-/// Settles what a session has behind the writer: the first one stands behind the reader.
+/// Settles what a session has behind the writer: the first one stands behind the reader. Mostly those of its numbers that stand before the reader
+/// stand before that one, and no others: how many these are is the guess.
 fn settle_behind(
     alloc: Global,
     graph: &mut Graph,
@@ -116,6 +120,7 @@ fn settle_behind(
     read: Read,
     session: u8,
     numbers: &[u64],
+    guess: usize,
 ) -> Result<(), NoMemory>
     requires climbs { Climbs numbers.now }
     requires session { session < length graph.old.gone }
@@ -136,7 +141,8 @@ fn settle_behind(
     if done <= bound {
         return Ok(());
     }
-    let Some(first) = first_from(session, numbers, read.reader, read.writer, bound) else {
+    let count = count_below_near(numbers, bound, guess);
+    let Some(first) = first_behind(session, numbers, read.reader, read.writer, count) else {
         return Ok(());
     };
     if done <= first.number {
@@ -175,8 +181,8 @@ pub(crate) fn settle_session(
         → Forces parts graph.old.gone graph.old.received graph.old.arcs steps.old.items graph.new.arcs steps.new.items) }
     ensures settled { OnOk result (AreSettled graph.old.gone graph.old.received graph.new.arcs told.new.items read session numbers.now) }
 {
-    settle_before(alloc, graph, steps, told, read, session, numbers)?;
-    settle_behind(alloc, graph, steps, told, read, session, numbers)
+    let count = settle_before(alloc, graph, steps, told, read, session, numbers)?;
+    settle_behind(alloc, graph, steps, told, read, session, numbers, count)
 }
 
 /// Settles a read, session by session.

@@ -14,6 +14,7 @@ use crate::due::Due;
 use crate::indexing::{Index, remaining_ids_of};
 use crate::linking::link_txns;
 use crate::saturating::saturate;
+use crate::spread::spread_of;
 use crate::steps::Forced;
 use order_check::Parts;
 use session_clocks::Graph;
@@ -64,6 +65,7 @@ pub(crate) fn relation_of(
     let ids = remaining_ids_of(alloc, parts)?;
     let mut graph = graph_by_sources(alloc, parts, index, &ids)?;
     let mut steps = Vec::new(alloc);
-    bring_all(alloc, parts, index, &mut graph, &mut steps, &ids)?;
+    let spread = spread_of(alloc, graph.gone(), graph.received(), &ids)?;
+    bring_all(alloc, parts, index, &mut graph, &mut steps, &spread)?;
     Ok((graph, steps))
 }

@@ -1,13 +1,6 @@
-use Rattle.std.proofs.Common.{ℕ, ◌-◌, ◌<◌, ◌≤◌, length, get_or}
+use Rattle.std.proofs.Common.{◌^◌}
+use Rattle.clock_choices.specs.Runs.{IsBetween}
 use Rattle.clock_choices.proofs.runs.count_below.Given as goal
 
-abbrev pub invariant-loop-low : goal.invariant-loop-low
-invariant-loop-low l = record {
-  order : l.low ≤ l.high;
-  within : l.high ≤ length l.numbers;
-  below : (k : ℕ) → k < l.low → get_or l.numbers k 0 < l.bound;
-  above : (k : ℕ) → l.high ≤ k → k < length l.numbers → l.bound ≤ get_or l.numbers k 0;
-}
-
-abbrev pub decreases-loop-low : goal.decreases-loop-low
-decreases-loop-low l = l.high - l.low
+abbrev pub invariant-loop-power : goal.invariant-loop-power
+invariant-loop-power l = IsBetween l.numbers l.bound l.low (2 ^ l.power)
