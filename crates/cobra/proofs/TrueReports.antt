@@ -72,15 +72,11 @@ use Rattle.cobra.specs.Outputs.{RepliesAll}
 use Rattle.cobra.specs.Saving.{saved_told, fragment_told}
 use Rattle.cobra.specs.Scripts.{IsBadLine, IsTakenIn, Goes, IsStep, EndsRound, IsRound, AnswersOpen, AnswersBeside, AnswersIsolated, AnswersStrict, GoesOn, IsCollected, state_told, AnswersFirst, BeginsAnew, AnswersResuming, AnswersHanding, HandsMarks, HandsOffer, EndsHandOver, Answers, TakesHalves, TakesMarks, TakesOver, stage_after}
 use Rattle.cobra.specs.StepReplies.{claim_of, certified, reply_of}
-use Rattle.cobra.specs.TrueReports.{Accepted, Origin, accepted_more, accepted_after, moved, reported_on, TellsTrueOf, MovesTxns, MovesHalves, IsKept, IsKeptSplit, IsTrueTold, BeginsWith, AreTrueReplies, EachReportIsTrue}
+use Rattle.cobra.specs.TrueReports.{Accepted, Origin, accepted_more, accepted_after, moved, reported_on, state_of, TellsTrueOf, TellsIsolation, MovesTxns, MovesHalves, IsKept, IsKeptSplit, IsTrueTold, BeginsWith, AreTrueReplies, EachReportIsTrue}
 use Rattle.cobra.specs.declared.handing.Handing.{Handing}
 use Rattle.cobra.specs.declared.stages.Stage.{Stage}
 use Rattle.cobra.specs.declared.stages.Stage.TheVariants as stage
 use Rattle.cobra.proofs.Pasts.{IsNoCut, goes_behind, some_map, still, with_nothing}
-
--- the state of an engine, beside which this was accepted
-abbrev state_of : EngineState → Accepted → State
-state_of engine accepted = record { engine = engine; whole = accepted.whole; asked = accepted.asked }
 
 -- An engine stands for what was accepted; and what it holds is what is left of it, where that is known, and stands behind what is gone, where that is.
 record Stands (engine : EngineState) (accepted : Accepted) : Type 0 where
@@ -112,17 +108,6 @@ Fits (stage.Strict offered version) None = ⊤
 Fits (stage.Resuming sessions limit opening) None = ⊤
 Fits (stage.Handing handed opening) None = ⊤
 Fits other (Some accepted) = ⊥
-
--- A reply to a script whose transactions aren't split is true: none tells of begins and commits.
-abbrev TellsByOrder : Bool → Option (List TxnId) → History → Reply → Type 0
-TellsByOrder left past history (told.Events round kind counts order) = ⊥
-TellsByOrder left past history (told.Broken round counts tree) = ⊥
-TellsByOrder left past history answer = TellsTrueOf left past history answer
-
-truly : (left : Bool) (past : Option (List TxnId)) (history : History) (answer : Reply) → TellsByOrder left past history answer → TellsTrueOf left past history answer
-truly left past history (told.Events round kind counts order) tells = absurd tells
-truly left past history (told.Broken round counts tree) tells = absurd tells
-truly left past history answer tells = tells
 
 stands_still : (engine : EngineState) (accepted : Accepted) → Stands engine accepted → Stands engine (moved accepted [])
 stands_still engine accepted stands = record {
@@ -170,7 +155,7 @@ judged_tree rounds before held None answer report right = absurd right
 judged_tree rounds before held (Some parts) answer report right = right_tree parts answer report.kind report.certificate right.0.right
 
 certified_true : (left : Bool) (past : Option (List TxnId)) (history : History) (round : ℕ) (counts : List ℕ) (kind : Kind) (certificate : Certificate) → counts ≡ map length history → IsTrueOf history kind → (left ≡ true → EndsOrderIfAny history certificate) → IfSome past (λ gone. StandsBehind gone history certificate) → KindOfTree kind certificate
-    → TellsByOrder left past history (certified (record { round = round; kind = kind; counts = counts; certificate = certificate }) certificate)
+    → TellsTrueOf left past history (certified (record { round = round; kind = kind; counts = counts; certificate = certificate }) certificate)
 certified_true left past history round counts kind (Order order) counted is ends behind tree = (counted, is, ends, behind)
 certified_true left past history round counts kind (Refuted shown) counted is ends behind tree = (counted, subst (IsTrueOf history) tree is)
 certified_true left past history round counts kind Nothing counted is ends behind tree = counted
@@ -235,7 +220,7 @@ step_stays w old new accepted next asked said goes stands whole_is asked_is left
     }
 
 -- a reply to a step that is a report is true
-step_true : Wholes → (old new : EngineState) (accepted : Accepted) (asked : Step) (said : StepReply) → Goes old asked said new → Stands old accepted → TellsByOrder accepted.left accepted.past accepted.asked (reply_of said)
+step_true : Wholes → (old new : EngineState) (accepted : Accepted) (asked : Step) (said : StepReply) → Goes old asked said new → Stands old accepted → TellsTrueOf accepted.left accepted.past accepted.asked (reply_of said)
 step_true w old new accepted asked reply.Done goes holds = tt
 step_true w old new accepted asked (reply.Refused refusal) goes holds = tt
 step_true w old new accepted asked (reply.Cut cut) goes holds = tt
@@ -250,12 +235,12 @@ step_true w old new accepted asked (reply.Report report) goes holds = absurd goe
 -- The reply to a command is true, and what the engine stands for after it is what was accepted by then, behind what is gone and what the reply puts there.
 record IsOn (accepted : Accepted) (command : Command) (answer : Reply) (new : EngineState) : Type 0 where
   ahead : List TxnId
-  is_true : TellsByOrder accepted.left accepted.past (reported_on accepted command) answer
+  is_true : TellsTrueOf accepted.left accepted.past (reported_on accepted command) answer
   moves : IfSome accepted.past (λ gone. MovesTxns answer ahead)
   holds : Stands new (moved (accepted_more accepted command answer) ahead)
 
 -- a reply that puts nothing there
-quietly : (accepted : Accepted) (command : Command) (answer : Reply) (new : EngineState) → TellsByOrder accepted.left accepted.past (reported_on accepted command) answer → MovesTxns answer [] → Stands new (accepted_more accepted command answer) → IsOn accepted command answer new
+quietly : (accepted : Accepted) (command : Command) (answer : Reply) (new : EngineState) → TellsTrueOf accepted.left accepted.past (reported_on accepted command) answer → MovesTxns answer [] → Stands new (accepted_more accepted command answer) → IsOn accepted command answer new
 quietly accepted command answer new is_true moves holds = record {
   ahead = [];
   is_true = is_true;
@@ -268,7 +253,7 @@ quietly accepted command answer new is_true moves holds = record {
     whatever (Some gone) = tt
 
 -- the reply to a step that takes nothing in
-by_step : Wholes → (old new : EngineState) (accepted : Accepted) (command : Command) (asked : Step) (said : StepReply) → Goes old asked said new → Stands old accepted → TellsByOrder accepted.left accepted.past (reported_on accepted command) (reply_of said)
+by_step : Wholes → (old new : EngineState) (accepted : Accepted) (command : Command) (asked : Step) (said : StepReply) → Goes old asked said new → Stands old accepted → TellsTrueOf accepted.left accepted.past (reported_on accepted command) (reply_of said)
     → accepted_more accepted command (reply_of said) ≡ accepted → whole_after (state_of old accepted) asked said ≡ accepted.whole → asked_after (state_of old accepted) asked said ≡ accepted.asked → IsOn accepted command (reply_of said) new
 by_step w old new accepted command asked said goes stands tells more whole_is asked_is =
     let on = step_on w old new accepted accepted asked said goes stands whole_is asked_is refl refl in
@@ -378,11 +363,11 @@ round_on w old new accepted search budget depth workers said round holds =
 
 -- ---- commands of an open engine
 
-saved_or_not : (left : Bool) (past : Option (List TxnId)) (history : History) (test : Bool) (fragment : Fragment) → TellsByOrder left past history (cond test (told.Saved (saved.Offer fragment)) (told.No BadSession))
+saved_or_not : (left : Bool) (past : Option (List TxnId)) (history : History) (test : Bool) (fragment : Fragment) → TellsTrueOf left past history (cond test (told.Saved (saved.Offer fragment)) (told.No BadSession))
 saved_or_not left past history true fragment = tt
 saved_or_not left past history false fragment = tt
 
-saved_true : (left : Bool) (past : Option (List TxnId)) (history : History) (parts : Parts) (wanted : Wanted) → TellsByOrder left past history (saved_told parts wanted)
+saved_true : (left : Bool) (past : Option (List TxnId)) (history : History) (parts : Parts) (wanted : Wanted) → TellsTrueOf left past history (saved_told parts wanted)
 saved_true left past history parts wanted.Marks = tt
 saved_true left past history parts (wanted.Last key) = tt
 saved_true left past history parts (wanted.Remain s n) = saved_or_not left past history (nat_lt s (length parts.remain)) (fragment_told parts s n)
@@ -436,7 +421,7 @@ open_on w version old new accepted Skip answer is holds = bad_on old new accepte
 -- ---- commands beside a search
 
 -- a reply that tells nothing, after which the engine is what it was
-quiet_on : (old new : AuditState) (accepted : Accepted) (command : Command) (answer said : Reply) → TellsByOrder accepted.left accepted.past (reported_on accepted command) said → MovesTxns said [] → accepted_more accepted command said ≡ accepted → answer ≡ said → new.engine ≡ old.engine → Stands old.engine accepted → IsOn accepted command answer new.engine
+quiet_on : (old new : AuditState) (accepted : Accepted) (command : Command) (answer said : Reply) → TellsTrueOf accepted.left accepted.past (reported_on accepted command) said → MovesTxns said [] → accepted_more accepted command said ≡ accepted → answer ≡ said → new.engine ≡ old.engine → Stands old.engine accepted → IsOn accepted command answer new.engine
 quiet_on old new accepted command answer said is_true moves more is same holds =
     let kept = same_on old.engine new.engine accepted same holds in
     subst (λ (a : Reply). IsOn accepted command a new.engine) (sym is)
@@ -504,11 +489,11 @@ split_accepted accepted = record { whole = split_history accepted.whole; asked =
 -- The reply to a command is true, and what the engine stands for after it is what was accepted by then, split.
 record IsIsolatedOn (accepted : Accepted) (command : Command) (answer : Reply) (new : EngineState) : Type 0 where
   ahead : List TxnId
-  is_true : TellsTrueOf accepted.left accepted.past (reported_on accepted command) answer
+  is_true : TellsIsolation accepted.left accepted.past (reported_on accepted command) answer
   moves : IfSome accepted.past (λ gone. MovesHalves answer ahead)
   holds : StandsSplit new (moved (accepted_more accepted command answer) ahead)
 
-isolated_quietly : (accepted : Accepted) (command : Command) (answer : Reply) (new : EngineState) → TellsTrueOf accepted.left accepted.past (reported_on accepted command) answer → MovesHalves answer [] → StandsSplit new (accepted_more accepted command answer) → IsIsolatedOn accepted command answer new
+isolated_quietly : (accepted : Accepted) (command : Command) (answer : Reply) (new : EngineState) → TellsIsolation accepted.left accepted.past (reported_on accepted command) answer → MovesHalves answer [] → StandsSplit new (accepted_more accepted command answer) → IsIsolatedOn accepted command answer new
 isolated_quietly accepted command answer new is_true moves holds = record {
   ahead = [];
   is_true = is_true;
@@ -520,7 +505,7 @@ isolated_quietly accepted command answer new is_true moves holds = record {
     whatever None = tt
     whatever (Some gone) = tt
 
-split_moves : CommittedAreOfCommits → (left : Bool) (past : Option (List TxnId)) (history : History) (inner : Reply) (ahead : List TxnId) → TellsByOrder left past history inner → MovesTxns inner ahead → MovesHalves (isolated_of inner) ahead
+split_moves : CommittedAreOfCommits → (left : Bool) (past : Option (List TxnId)) (history : History) (inner : Reply) (ahead : List TxnId) → TellsTrueOf left past history inner → MovesTxns inner ahead → MovesHalves (isolated_of inner) ahead
 split_moves committed_has left past history (told.Cut fence gone last) ahead tells moves = λ id. (λ has. (committed_has gone id).0 ((moves (commit_half id)).0 has), λ has. (moves (commit_half id)).1 ((committed_has gone id).1 has))
 split_moves committed_has left past history (told.Order round kind counts order) ahead tells moves = moves
 split_moves committed_has left past history (told.Violated round counts tree) ahead tells moves = moves
@@ -547,7 +532,7 @@ kept_behind : OrdersIsolate → (history : History) (gone order : List TxnId) �
 kept_behind isolate history gone order h = subst (IsSnapshotOrder history) (map-append event_at gone order) (isolate history (gone ++ order) h)
 
 -- what is true of the split history is told of the history
-isolated_true : Laws → (left : Bool) (past : Option (List TxnId)) (history : History) (inner : Reply) → HistoryCanBeSplit history → TellsByOrder left past (split_history history) inner → TellsTrueOf left past history (isolated_of inner)
+isolated_true : Laws → (left : Bool) (past : Option (List TxnId)) (history : History) (inner : Reply) → HistoryCanBeSplit history → TellsTrueOf left past (split_history history) inner → TellsIsolation left past history (isolated_of inner)
 isolated_true laws left past history (told.Order round kind counts order) can tells = (
   halved_counts laws.doubles laws.halving history counts tells.0,
   isolation_of laws.verdict history kind can tells.1,
@@ -615,11 +600,11 @@ isolated_rest : Laws → (version : Version) (old new : AuditState) (accepted ne
     → IsIsolatedOn accepted command (isolated_of inner) new.engine
 isolated_rest laws version old new accepted next command inner history is holds about about_split can more more_split whole asked =
     let on : IsOn (split_accepted accepted) command inner new.engine = beside_on laws.wholes version old new (split_accepted accepted) command inner is (record { holds = holds.holds.holds; left = holds.left; behind = holds.behind }) in
-    let tells : TellsByOrder accepted.left accepted.past (split_history history) inner = subst (λ (h : History). TellsByOrder accepted.left accepted.past h inner) about_split on.is_true in
+    let tells : TellsTrueOf accepted.left accepted.past (split_history history) inner = subst (λ (h : History). TellsTrueOf accepted.left accepted.past h inner) about_split on.is_true in
     let stands : Stands new.engine (moved (split_accepted next) on.ahead) = subst (λ (a : Accepted). Stands new.engine (moved a on.ahead)) more_split on.holds in
     record {
       ahead = on.ahead;
-      is_true = subst (λ (h : History). TellsTrueOf accepted.left accepted.past h (isolated_of inner)) (sym about) (isolated_true laws accepted.left accepted.past history inner can tells);
+      is_true = subst (λ (h : History). TellsIsolation accepted.left accepted.past h (isolated_of inner)) (sym about) (isolated_true laws accepted.left accepted.past history inner can tells);
       moves = some_map accepted.past (λ gone. MovesTxns inner on.ahead) (λ gone. MovesHalves (isolated_of inner) on.ahead) (λ gone. split_moves laws.committed accepted.left accepted.past (split_history history) inner on.ahead tells) on.moves;
       holds = subst (λ (a : Accepted). StandsSplit new.engine (moved a on.ahead)) (sym more) (record { holds = record { holds = stands.holds; whole = whole; asked = asked }; left = stands.left; behind = stands.behind });
     }
@@ -807,7 +792,7 @@ open_fits w old version new accepted command answer is holds =
     let on = beside_on w version old is.0 accepted command answer is.1 holds in
     record {
       ahead = on.ahead;
-      is_true = (truly accepted.left accepted.past (reported_on accepted command) answer on.is_true, on.moves);
+      is_true = (on.is_true, on.moves);
       fits = subst (λ (s : Stage). Fits s (Some (moved (accepted_more accepted command answer) on.ahead))) (sym is.2) on.holds;
     }
 
@@ -858,8 +843,8 @@ kept_open laws old accepted stands =
 
 are_kept : Laws → (old : Stage) (accepted : Option Accepted) → Fits old accepted → IsKept old accepted
 are_kept laws old None fits = tt
-are_kept laws (stage.Open audit version) (Some accepted) fits = fits.behind
-are_kept laws (stage.Isolated audit version) (Some accepted) fits = kept_open laws audit accepted fits
+are_kept laws (stage.Open audit version) (Some accepted) fits = (fits.holds, fits.behind)
+are_kept laws (stage.Isolated audit version) (Some accepted) fits = (fits.holds, kept_open laws audit accepted fits)
 are_kept laws stage.Nothing (Some accepted) fits = absurd fits
 are_kept laws (stage.Strict offered version) (Some accepted) fits = absurd fits
 are_kept laws (stage.Resuming sessions limit opening) (Some accepted) fits = absurd fits

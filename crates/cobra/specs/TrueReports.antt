@@ -15,14 +15,15 @@ use Rattle.log_text.specs.declared.replies.Reply.TheVariants as told
 use Rattle.log_text.specs.Replies.{line_of}
 use Rattle.log_text.specs.declared.versions.Opening.TheVariants.{Ordered, Isolated}
 use Rattle.round_state.specs.EngineState.{EngineState}
-use Rattle.round_state.specs.Legal.{IsTrueOf}
+use Rattle.round_state.specs.Legal.{State, IsTrueOf}
 use Rattle.round_state.specs.Opening.{no_history}
+use Rattle.round_state.specs.Runs.{Holds}
 use Rattle.round_state.specs.Steps.{arrival_of}
 use Rattle.gone_orders.specs.Behind.{RemainsBehind}
 use Rattle.isolation_histories.specs.Halves.{commit_half, event_at}
 use Rattle.isolation_histories.specs.Split.{split_history, HistoryCanBeSplit}
 use Rattle.isolation_rests.specs.Behind.{KeepsBehind}
-use Rattle.isolation_scripts.specs.Legal.{IsIsolationOf}
+use Rattle.isolation_scripts.specs.Legal.{HoldsSplit, IsIsolationOf}
 use Rattle.whole_orders.specs.Isolated.{EndsSnapshotOrder}
 use Rattle.whole_orders.specs.Left.{EndsOrder, IsLeftOf}
 use Rattle.engine_pasts.specs.Holding.{HoldsBehind}
@@ -75,19 +76,44 @@ abbrev pub reported_on : Accepted → Command → History
 reported_on accepted (Round budget depth workers search) = accepted.whole
 reported_on accepted command = accepted.asked
 
--- A reply that is a report is true of a history: it counts the transactions of each session, and its kind, where it isn't spent, is the
--- verdict of the whole: by some order, or, where it is told of begins and commits, by snapshot isolation. An order that it tells is the end of one that
--- explains the whole history, or of one of begins and commits of all of it that is snapshot isolation: where what is kept is what is left of it. Where
--- the order of what is gone is known, put behind that it explains the whole history, or is one of begins and commits that is snapshot isolation.
+-- A reply that is a report is true of a history, by serializability: it counts the transactions of each session, and its kind, where it isn't spent, is
+-- the verdict of the whole: by some order. An order that it shows is the end of one that explains the whole history, where what is kept is what is left
+-- of it; and put behind what is gone, where the order of that is known, it explains the whole history. No such reply shows begins and commits.
 abbrev pub TellsTrueOf : Bool → Option (List TxnId) → History → Reply → Type 0
 TellsTrueOf left past history (told.Order round kind counts order) = (counts ≡ map length history) × IsTrueOf history kind × (left ≡ true → EndsOrder history order) × IfSome past (λ gone. ExplainsWhole history (gone ++ order))
 TellsTrueOf left past history (told.Violated round counts tree) = (counts ≡ map length history) × IsTrueOf history kinds.Violated
-TellsTrueOf left past history (told.Events round kind counts order) =
+TellsTrueOf left past history (told.Spent round counts) = counts ≡ map length history
+TellsTrueOf left past history (told.Events round kind counts order) = ⊥
+TellsTrueOf left past history (told.Broken round counts tree) = ⊥
+TellsTrueOf left past history other = ⊤
+
+-- The same by snapshot isolation, of begins and commits: the verdict is by an order of these that is snapshot isolation, and so is what is said of the
+-- one that is shown. No such reply shows an order of transactions.
+abbrev pub TellsIsolation : Bool → Option (List TxnId) → History → Reply → Type 0
+TellsIsolation left past history (told.Events round kind counts order) =
     (counts ≡ map length history) × IsIsolationOf history kind × (left ≡ true → EndsSnapshotOrder history (map event_at order))
     × IfSome past (λ gone. KeepsBehind history (map event_at gone) (map event_at order))
-TellsTrueOf left past history (told.Broken round counts tree) = (counts ≡ map length history) × IsIsolationOf history kinds.Violated
-TellsTrueOf left past history (told.Spent round counts) = counts ≡ map length history
-TellsTrueOf left past history other = ⊤
+TellsIsolation left past history (told.Broken round counts tree) = (counts ≡ map length history) × IsIsolationOf history kinds.Violated
+TellsIsolation left past history (told.Spent round counts) = counts ≡ map length history
+TellsIsolation left past history (told.Order round kind counts order) = ⊥
+TellsIsolation left past history (told.Violated round counts tree) = ⊥
+TellsIsolation left past history other = ⊤
+
+-- by the promise that the script asks for
+abbrev pub TellsBy : Stage → Bool → Option (List TxnId) → History → Reply → Type 0
+TellsBy (stage.Isolated audit version) left past history answer = TellsIsolation left past history answer
+TellsBy other left past history answer = TellsTrueOf left past history answer
+
+-- an engine beside all that was accepted, and what had been accepted when the open round began
+abbrev pub state_of : EngineState → Accepted → State
+state_of engine accepted = record { engine = engine; whole = accepted.whole; asked = accepted.asked }
+
+-- What the engine of a script keeps stands for all that was accepted: whatever may still come, the verdicts agree (StandsFor). So does the open round's
+-- snapshot for what had been accepted when the round began. Where transactions are split, their halves do.
+abbrev pub StandsForAccepted : Stage → Accepted → Type 0
+StandsForAccepted (stage.Open audit version) accepted = Holds audit.engine (state_of audit.engine accepted)
+StandsForAccepted (stage.Isolated audit version) accepted = HoldsSplit audit.engine (state_of audit.engine accepted)
+StandsForAccepted other accepted = ⊥
 
 -- Where transactions are split: each of those accepted can be; the halves that an engine holds remain of theirs, behind the halves that are gone, in
 -- this order; and they tell of the transactions, behind the begins and commits that are gone, exactly.
@@ -102,10 +128,10 @@ IsKeptBehind (stage.Open audit version) gone accepted = HoldsBehind gone audit.e
 IsKeptBehind (stage.Isolated audit version) gone accepted = IsKeptSplit gone audit.engine accepted.whole accepted.asked
 IsKeptBehind other gone accepted = ⊥
 
--- the same of a script, once an engine is open and where the order of what is gone is known
+-- Once an engine is open, what is kept stands for what was accepted, and, where the order of what is gone is known, remains behind that.
 abbrev pub IsKept : Stage → Option Accepted → Type 0
 IsKept old None = ⊤
-IsKept old (Some accepted) = IfSome accepted.past (λ gone. IsKeptBehind old gone accepted)
+IsKept old (Some accepted) = StandsForAccepted old accepted × IfSome accepted.past (λ gone. IsKeptBehind old gone accepted)
 
 -- What a reply puts behind what is gone: a cut the transactions that it tells, in some order, and any other reply nothing.
 abbrev pub MovesTxns : Reply → List TxnId → Type 0
@@ -125,7 +151,7 @@ MovesBehind other answer ahead = MovesTxns answer ahead
 -- Once an engine is open: the reply is true of what was accepted by then, and puts these behind what is gone. Before, there are none.
 abbrev pub IsTrueTold : Stage → Option Accepted → Command → Reply → List TxnId → Type 0
 IsTrueTold old None command answer ahead = ahead ≡ []
-IsTrueTold old (Some accepted) command answer ahead = TellsTrueOf accepted.left accepted.past (reported_on accepted command) answer × IfSome accepted.past (λ gone. MovesBehind old answer ahead)
+IsTrueTold old (Some accepted) command answer ahead = TellsBy old accepted.left accepted.past (reported_on accepted command) answer × IfSome accepted.past (λ gone. MovesBehind old answer ahead)
 
 -- Where a hand-over ends, the parts that were handed over stand for the whole history with which the script begins; or, where transactions are
 -- split, for the split one. Where it is said so, they are what is left of it, too, and remain of it behind the order of what is gone.

@@ -37,7 +37,7 @@ use Rattle.engine_pasts.specs.Laws.{ReportedEventsStandBehind, StepsHoldBehind}
 use Rattle.cobra.specs.Saving.{fragment_told, saved_told}
 use Rattle.cobra.specs.Scripts.{IsBadLine, state_told}
 use Rattle.cobra.specs.StepReplies.{certified, claim_of, report_of, reply_of}
-use Rattle.cobra.specs.TrueReports.{MovesHalves, TellsTrueOf}
+use Rattle.cobra.specs.TrueReports.{MovesHalves, TellsIsolation}
 use Rattle.report_checking.specs.Isolation.{EndsIsolated, EndsWhere, IsIsolatedRound, IsIsolatedStep, IsOwedIsolation, OwesAsked, OwesIsolated, OwesSplit}
 use Rattle.report_checking.specs.Owing.{BeginsSearch, IsPlain}
 use Rattle.report_checking.specs.TrueReplies.{reported_in}
@@ -50,21 +50,21 @@ StandsIsolated gone state = HistoryCanBeSplit state.whole × HistoryCanBeSplit s
 -- The reply to a command is true, and puts something behind what is gone.
 pub record NextIsolated (gone : List TxnId) (old : State) (command : Command) (answer : Reply) (new : State) : Type 0 where
   pub ahead : List TxnId
-  pub is_true : TellsTrueOf true (Some gone) (reported_in old command) answer
+  pub is_true : TellsIsolation true (Some gone) (reported_in old command) answer
   pub moves : MovesHalves answer ahead
   pub stands : StandsIsolated (gone ++ ahead) new
 
 -- The report of a round is true of a history, and puts nothing there.
 record EndsTrue (gone : List TxnId) (history : History) (answer : Reply) (new : State) : Type 0 where
-  is_true : TellsTrueOf true (Some gone) history answer
+  is_true : TellsIsolation true (Some gone) history answer
   moves : MovesHalves answer []
   stands : StandsIsolated gone new
 
-quiet : (gone : List TxnId) (old new : State) (command : Command) (answer : Reply) → TellsTrueOf true (Some gone) (reported_in old command) answer → MovesHalves answer [] → StandsIsolated gone new → NextIsolated gone old command answer new
+quiet : (gone : List TxnId) (old new : State) (command : Command) (answer : Reply) → TellsIsolation true (Some gone) (reported_in old command) answer → MovesHalves answer [] → StandsIsolated gone new → NextIsolated gone old command answer new
 quiet gone old new command answer is_true moves stands = record { ahead = []; is_true = is_true; moves = moves; stands = subst (λ (past : List TxnId). StandsIsolated past new) (sym (append-nil gone)) stands }
 
 -- a reply that tells nothing, after which all is as it was
-unchanged : (gone : List TxnId) (old new : State) (command : Command) (answer said : Reply) → answer ≡ said → new ≡ old → TellsTrueOf true (Some gone) (reported_in old command) said → MovesHalves said [] → StandsIsolated gone old → NextIsolated gone old command answer new
+unchanged : (gone : List TxnId) (old new : State) (command : Command) (answer said : Reply) → answer ≡ said → new ≡ old → TellsIsolation true (Some gone) (reported_in old command) said → MovesHalves said [] → StandsIsolated gone old → NextIsolated gone old command answer new
 unchanged gone old new command answer said is same is_true moves stands =
     subst (λ (a : Reply). NextIsolated gone old command a new) (sym is) (quiet gone old new command said is_true moves (subst (λ (state : State). StandsIsolated gone state) (sym same) stands))
 
@@ -92,12 +92,12 @@ pub record Laws : Type 0 where
   pub halving : HalvedCountsAreWhole
 
 module _ (laws : Laws) where
-  certified_true : (gone : List TxnId) (history : History) (report : Report) (certificate : Certificate) → report.counts ≡ map (λ txns. 2 * length txns) history → IsIsolationOf history report.kind → EventsStandBehind gone history certificate → KindOfTree report.kind certificate → TellsTrueOf true (Some gone) history (isolated_of (certified report certificate))
+  certified_true : (gone : List TxnId) (history : History) (report : Report) (certificate : Certificate) → report.counts ≡ map (λ txns. 2 * length txns) history → IsIsolationOf history report.kind → EventsStandBehind gone history certificate → KindOfTree report.kind certificate → TellsIsolation true (Some gone) history (isolated_of (certified report certificate))
   certified_true gone history report (Order order) counted is behind tree = (ap halved counted ∙ laws.halving history, is, λ yes. (map event_at gone, behind), behind)
   certified_true gone history report (Refuted shown) counted is behind tree = (ap halved counted ∙ laws.halving history, subst (IsIsolationOf history) tree is)
   certified_true gone history report Nothing counted is behind tree = ap halved counted ∙ laws.halving history
 
-  told_true : (gone : List TxnId) (old new : State) (asked : Step) (said : StepReply) → IsPlain asked → LegalIsolation old asked said new → StandsIsolated gone old → TellsTrueOf true (Some gone) old.asked (isolated_of (reply_of said))
+  told_true : (gone : List TxnId) (old new : State) (asked : Step) (said : StepReply) → IsPlain asked → LegalIsolation old asked said new → StandsIsolated gone old → TellsIsolation true (Some gone) old.asked (isolated_of (reply_of said))
   told_true gone old new asked reply.Done plain legal stands = tt
   told_true gone old new asked (reply.Refused refusal) plain legal stands = tt
   told_true gone old new asked (reply.Cut cut) plain legal stands = tt
@@ -109,7 +109,7 @@ module _ (laws : Laws) where
   told_true gone old new asked (reply.Report report) plain legal stands = absurd legal.engine
 
   -- what is told of a step that isn't a finish, where there may be so many sessions
-  on_step : (sessions : ℕ) (gone : List TxnId) (old new : State) (command : Command) (asked : Step) (said : StepReply) → CanBeMade sessions asked → LegalIsolation old asked said new → StandsIsolated gone old → TellsTrueOf true (Some gone) (reported_in old command) (isolated_of (reply_of said)) → NextIsolated gone old command (isolated_of (reply_of said)) new
+  on_step : (sessions : ℕ) (gone : List TxnId) (old new : State) (command : Command) (asked : Step) (said : StepReply) → CanBeMade sessions asked → LegalIsolation old asked said new → StandsIsolated gone old → TellsIsolation true (Some gone) (reported_in old command) (isolated_of (reply_of said)) → NextIsolated gone old command (isolated_of (reply_of said)) new
   on_step sessions gone old new command asked said can legal stands is_true =
       let follow = laws.follow sessions old.engine new.engine old asked said can legal.engine (received_behind gone old.engine.parts (split_history old.whole) stands.2.parts) stands.0 stands.1 in
       let behind = laws.steps gone old.engine new.engine (split_history old.whole) (split_history old.asked) (split_step asked) said legal.engine stands.2 in
@@ -128,7 +128,7 @@ module _ (laws : Laws) where
   by_step : (sessions : ℕ) (gone : List TxnId) (old new : State) (command : Command) (asked : Step) (answer : Reply) → reported_in old command ≡ old.asked → IsPlain asked → CanBeMade sessions asked → IsIsolatedStep old asked answer new → StandsIsolated gone old → NextIsolated gone old command answer new
   by_step sessions gone old new command asked answer about plain can is stands =
       subst (λ (a : Reply). NextIsolated gone old command a new) (sym is.2)
-      (on_step sessions gone old new command asked is.0 can is.1 stands (subst (λ (history : History). TellsTrueOf true (Some gone) history (isolated_of (reply_of is.0))) (sym about) (told_true gone old new asked is.0 plain is.1 stands)))
+      (on_step sessions gone old new command asked is.0 can is.1 stands (subst (λ (history : History). TellsIsolation true (Some gone) history (isolated_of (reply_of is.0))) (sym about) (told_true gone old new asked is.0 plain is.1 stands)))
 
   taken : (sessions : ℕ) (gone : List TxnId) (old new : State) (command : Command) (asked : Step) (answer : Reply) (has : Bool) → reported_in old command ≡ old.asked → IsPlain asked → CanBeMade sessions asked → ((has ≡ true) × IsIsolatedStep old asked answer new) ⊎ ((has ≡ false) × IsBadLine old answer new) → StandsIsolated gone old → NextIsolated gone old command answer new
   taken sessions gone old new command asked answer has about plain can is stands = ⊎_elim (λ one. by_step sessions gone old new command asked answer about plain can one.1 stands) (λ none. bad gone old new command answer none.1 stands) is
@@ -157,7 +157,7 @@ module _ (laws : Laws) where
   ended_where : (may : Bool) (refusal : Refusal) (searched after : Bool) (gone : List TxnId) (old new : State) (command : Command) (answer : Reply) → reported_in old command ≡ old.asked → EndsWhere may refusal searched old answer after new → StandsIsolated gone old → NextIsolated gone old command answer new
   ended_where true refusal searched after gone old new command answer about owed stands =
       let end = ends gone old new answer owed.0 stands in
-      quiet gone old new command answer (subst (λ (history : History). TellsTrueOf true (Some gone) history answer) (sym about) end.is_true) end.moves end.stands
+      quiet gone old new command answer (subst (λ (history : History). TellsIsolation true (Some gone) history answer) (sym about) end.is_true) end.moves end.stands
   ended_where false refusal searched after gone old new command answer about owed stands = unchanged gone old new command answer (told.No refusal) owed.0 owed.1 tt refl stands
 
   round : (gone : List TxnId) (old new : State) (command : Command) (answer : Reply) → reported_in old command ≡ old.whole → IsIsolatedRound old answer new → StandsIsolated gone old → NextIsolated gone old command answer new
@@ -171,16 +171,16 @@ module _ (laws : Laws) where
           let begins = on_step 0 gone old between Begin step.Begin reply.Done tt legal stands tt in
           let at : StandsIsolated gone between = subst (λ (past : List TxnId). StandsIsolated past between) (ap (λ (more : List TxnId). gone ++ more) begins.moves ∙ append-nil gone) begins.stands in
           let end = ends gone between new answer owes at in
-          quiet gone old new command answer (subst (λ (history : History). TellsTrueOf true (Some gone) history answer) (legal.asked ∙ sym about) end.is_true) end.moves end.stands
+          quiet gone old new command answer (subst (λ (history : History). TellsIsolation true (Some gone) history answer) (legal.asked ∙ sym about) end.is_true) end.moves end.stands
 
   -- ---- what is given out
 
-  saved_true : (gone : List TxnId) (history : History) (parts : Parts) (asked : Wanted) → TellsTrueOf true (Some gone) history (isolated_of (saved_told parts asked))
+  saved_true : (gone : List TxnId) (history : History) (parts : Parts) (asked : Wanted) → TellsIsolation true (Some gone) history (isolated_of (saved_told parts asked))
   saved_true gone history parts wanted.Marks = tt
   saved_true gone history parts (wanted.Last key) = tt
   saved_true gone history parts (wanted.Remain s n) = by_test (nat_lt s (length parts.remain)) (fragment_told parts s n)
     where
-      by_test : (test : Bool) (fragment : Fragment) → TellsTrueOf true (Some gone) history (isolated_of (cond test (told.Saved (saved.Offer fragment)) (told.No BadSession)))
+      by_test : (test : Bool) (fragment : Fragment) → TellsIsolation true (Some gone) history (isolated_of (cond test (told.Saved (saved.Offer fragment)) (told.No BadSession)))
       by_test true fragment = tt
       by_test false fragment = tt
 

@@ -14,10 +14,9 @@ use Rattle.round_state.specs.Opening.{fresh}
 use Rattle.isolation_scripts.specs.Legal.{NothingIsSplit}
 use Rattle.engine_pasts.specs.Holding.{HoldsBehind}
 use Rattle.engine_pasts.specs.Laws.{FreshEnginesHoldBehind, HalvesAreToldBehind, ReportedOrdersStandBehind}
-use Rattle.cobra.specs.TrueReports.{TellsTrueOf}
 use Rattle.report_checking.specs.Checking.{Checks, left_by, right, start, unchecked}
 use Rattle.report_checking.specs.OwedLines.{Owes, OwesFirst, OwesIn, OwesLine, ScriptState}
-use Rattle.report_checking.specs.TrueReplies.{ChecksTrue, IsKept, IsKeptIn, IsTrueTold, MovesIn, RightRepliesAreTrue, TellsTrue, beginning, left_out, reported_in, true_reply}
+use Rattle.report_checking.specs.TrueReplies.{ChecksTrue, IsKept, IsKeptIn, IsTrueTold, MovesIn, RightRepliesAreTrue, TellsIn, TellsTrue, beginning, left_out, reported_in, true_reply}
 use Rattle.report_checking.specs.declared.findings.Found.{Found}
 use Rattle.report_checking.proofs.TrueIsolated as isolated
 use Rattle.report_checking.proofs.TrueOrdered as ordered
@@ -50,7 +49,7 @@ kept laws (Some script) gone stands = kept_in laws script.opening gone script.st
 
 record NextIn (opening : Opening) (gone : List TxnId) (old : State) (command : Command) (answer : Reply) (new : State) : Type 0 where
   ahead : List TxnId
-  is_true : TellsTrueOf true (Some gone) (reported_in old command) answer
+  is_true : TellsIn opening gone (reported_in old command) answer
   moves : MovesIn opening answer ahead
   stands : StandsIn opening (gone ++ ahead) new
 

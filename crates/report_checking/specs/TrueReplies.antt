@@ -13,7 +13,7 @@ use Rattle.round_state.specs.Legal.{State}
 use Rattle.engine_pasts.specs.Holding.{HoldsBehind}
 use Rattle.cobra.specs.Outputs.{Asks}
 use Rattle.cobra.specs.Scripts.{IsBadLine}
-use Rattle.cobra.specs.TrueReports.{IsKeptSplit, MovesHalves, MovesTxns, TellsTrueOf}
+use Rattle.cobra.specs.TrueReports.{IsKeptSplit, MovesHalves, MovesTxns, TellsIsolation, TellsTrueOf}
 use Rattle.report_checking.specs.Checking.{Checks, IsUnchecked}
 use Rattle.report_checking.specs.OwedLines.{Owes, ScriptState, names_told}
 use Rattle.report_checking.specs.Telling.{what_of}
@@ -41,10 +41,15 @@ abbrev pub MovesIn : Opening → Reply → List TxnId → Type 0
 MovesIn (Ordered version) answer ahead = MovesTxns answer ahead
 MovesIn (Isolated version) answer ahead = MovesHalves answer ahead
 
+-- A reply that is a report is true of a history, by the promise that the script asks for.
+abbrev pub TellsIn : Opening → List TxnId → History → Reply → Type 0
+TellsIn (Ordered version) gone history answer = TellsTrueOf true (Some gone) history answer
+TellsIn (Isolated version) gone history answer = TellsIsolation true (Some gone) history answer
+
 -- Once a script is open: the reply to the command is true of what was received, and puts these behind what is gone. Before, there are none.
 abbrev pub IsTrueTold : Option ScriptState → List TxnId → Command → Reply → List TxnId → Type 0
 IsTrueTold None gone command answer ahead = ahead ≡ []
-IsTrueTold (Some old) gone command answer ahead = TellsTrueOf true (Some gone) (reported_in old.state command) answer × MovesIn old.opening answer ahead
+IsTrueTold (Some old) gone command answer ahead = TellsIn old.opening gone (reported_in old.state command) answer × MovesIn old.opening answer ahead
 
 -- The reply is owed to the line, and true.
 abbrev pub TellsTrue : Option ScriptState → List TxnId → List ℕ → Reply → List TxnId → Option ScriptState → Type 0
