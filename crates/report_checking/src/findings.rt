@@ -42,10 +42,7 @@ impl Fault {
     pub(crate) fn owes_nothing(&self) -> bool
         ensures { result ≡ owes_nothing self.now }
     {
-        matches!(
-            self,
-            Fault::Unshown(Unshown::Beginning | Unshown::Strict)
-        )
+        matches!(self, Fault::Unshown(Unshown::Beginning | Unshown::Strict))
     }
 }
 
