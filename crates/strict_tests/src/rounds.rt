@@ -15,7 +15,7 @@ use txn::Source::{self, By, Init};
 use txn::{NoMemory, Sequence, Txn, TxnId};
 
 /// How many histories are tried.
-const HISTORIES: u64 = 10_000;
+const HISTORIES: u64 = 2_000;
 
 /// Two transactions of session 0, one of session 1 and one of session 2.
 static IDS: [TxnId; 4] = [
