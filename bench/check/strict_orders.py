@@ -60,7 +60,8 @@ def is_pending(history):
 
 class Rewriting:
     """Each transaction writes a key of its own, if it's known when it ended. Of each session, one
-    that begins later reads the key of the last that had ended."""
+    that begins later reads the key of the last that had ended, unless that one had ended before
+    another one of these began."""
 
     def end_key(self, session, number):
         return END_KEYS + session * NUMBERS + number
@@ -77,6 +78,14 @@ class Rewriting:
     def is_looked_at(self, session, own):
         return True
 
+    def latest(self, found, txn):
+        """When the latest of these began that began before this one."""
+        return max((one.began for one in found if None not in (one.began, txn.began)
+                    and one.began < txn.began), default=None)
+
+    def is_left_out(self, one, latest):
+        return None not in (one.ended, latest) and one.ended < latest
+
     def source(self, session, number):
         return session, number
 
@@ -86,10 +95,13 @@ class Rewriting:
 
     def _txn(self, history, own, number):
         txn = history[own][number]
-        reads = [(self.end_key(session, last), self.source(session, last))
-                 for session, txns in enumerate(history) if self.is_looked_at(session, own)
+        found = [(session, last) for session, txns in enumerate(history)
+                 if self.is_looked_at(session, own)
                  for last in self.pick([n for n, one in enumerate(txns)
                                         if self.is_before(one, txn)], txns)]
+        latest = self.latest([history[session][last] for session, last in found], txn)
+        reads = [(self.end_key(*last), self.source(*last)) for last in found
+                 if not self.is_left_out(history[last[0]][last[1]], latest)]
         writes = [self.end_key(own, number)] if self.writes_end(txn) else []
         return Txn([*txn.reads, *reads], [*txn.writes, *writes], None, None)
 
@@ -130,6 +142,26 @@ class LowerSessionsAlone(Rewriting):
         return session <= own
 
 
+class LeavesOutThoseThatBeganEarlier(Rewriting):
+    def is_left_out(self, one, latest):
+        return None not in (one.began, latest) and one.began < latest
+
+
+class LeavesOutEqualTimes(Rewriting):
+    def is_left_out(self, one, latest):
+        return None not in (one.ended, latest) and one.ended <= latest
+
+
+class LeavesOutByItsOwnBegin(Rewriting):
+    def latest(self, found, txn):
+        return txn.began
+
+
+class LeavesOutByImpossibleBegins(Rewriting):
+    def latest(self, found, txn):
+        return max((one.began for one in found if one.began is not None), default=None)
+
+
 class OneKeyASession(Rewriting):
     def end_key(self, session, number):
         return END_KEYS + session
@@ -161,8 +193,9 @@ class ReadFromTheNext(Rewriting):
 
 
 WRONG = (ReadsTheFirst, ReadsOnlyTheNewest, EqualTimesOrder, ComparesBegins, ComparesEnds,
-         UnknownIsEarly, LowerSessionsAlone, OneKeyASession, OneKeyANumber, KeysOfTheHistory,
-         NothingIsWritten, ReadAsAtFirst, ReadFromTheNext)
+         UnknownIsEarly, LowerSessionsAlone, LeavesOutThoseThatBeganEarlier, LeavesOutEqualTimes,
+         LeavesOutByItsOwnBegin, LeavesOutByImpossibleBegins, OneKeyASession, OneKeyANumber,
+         KeysOfTheHistory, NothingIsWritten, ReadAsAtFirst, ReadFromTheNext)
 
 
 # ---- histories

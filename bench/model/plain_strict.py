@@ -40,7 +40,7 @@ def plain_parts(history):
 
 def rewritten_parts(history):
     """The same with a key for each known end, which those read that began later: of each session
-    the key of the last that had ended."""
+    the key of the last that had ended, unless that was before another one of these began."""
     return _parts([[_rewritten(history, session, number) for number in range(len(txns))]
                    for session, txns in enumerate(history)])
 
@@ -53,8 +53,10 @@ def _rewritten(history, own, number):
     reads, writes, began, ended = history[own][number]
     last = [(session, max((n for n, one in enumerate(txns) if is_before(one[3], began)),
                           default=None)) for session, txns in enumerate(history)]
-    ends = [(END_KEYS + session * NUMBERS + n, (session, n)) for session, n in last
-            if n is not None]
+    found = [(session, n) for session, n in last if n is not None]
+    latest = max((history[session][n][2] or 0 for session, n in found), default=None)
+    ends = [(END_KEYS + session * NUMBERS + n, (session, n)) for session, n in found
+            if not is_before(history[session][n][3], latest)]
     return [*reads, *ends], [*writes, *[END_KEYS + own * NUMBERS + number] * (ended is not None)]
 
 

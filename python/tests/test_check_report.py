@@ -101,23 +101,26 @@ class StoredReplies(unittest.TestCase):
                 replies = lines_of(path[: -len("jsonl")] + "replies")
                 self.assertEqual(status_of(lines_of(path), replies), 0)
 
-    def test_a_script_that_resumes_another_is_refused(self):
+    def test_a_script_that_resumes_another_is_not_checked(self):
         script, replies = lines_of(RESUMED), lines_of(RESUMED[: -len("jsonl")] + "replies")
         ended = checked(script, replies)
-        self.assertEqual(ended.returncode, 3)
-        self.assertIn(b"reply 2 wrong: its script resumes another, and what had gone before isn't",
-                      ended.stdout)
+        self.assertEqual(ended.returncode, 4)
+        self.assertEqual(ended.stdout,
+                         b"reply 2 not checked: its script resumes another, and what had gone before "
+                         b"isn't shown\nunchecked: replies 2 reports 0 spent 0 not-checked 1\n")
         self.assertTrue(plainly_right(plain_checker(), script, replies))
 
-    def test_a_script_that_asks_for_strict_serializability_is_refused(self):
+    def test_a_script_that_asks_for_strict_serializability_is_not_checked(self):
         for path in filter(asks_for_strictness, ALL):
             with self.subTest(os.path.basename(path)):
                 script, replies = lines_of(path), lines_of(path[: -len("jsonl")] + "replies")
                 ended = checked(script, replies)
                 at = next(at for at, turn in enumerate(zip(script, replies), 1)
                           if turn[0].startswith(b'["open",') and b"BadLine" not in turn[1])
-                self.assertEqual(ended.returncode, 3)
-                self.assertIn(b"reply %d wrong: its script asks for strict serializability" % at, ended.stdout)
+                self.assertEqual(ended.returncode, 4)
+                self.assertEqual(ended.stdout,
+                                 b"reply %d not checked: its script asks for strict serializability\n"
+                                 b"unchecked: replies %d reports 0 spent 0 not-checked 1\n" % (at, at))
 
     def test_a_cut_from_before_a_join_is_wrong(self):
         name = os.path.join(DATA, "join_drops_the_cut.")

@@ -4,8 +4,8 @@
 
 ghost use Rattle.std.specs.Prelude.{◌≡◌, ◌≢◌, ◌<◌, ◌⊎◌, codes, Ok, Err, None, Some, IfSome, OnErr};
 ghost use Rattle.std.specs.Io.KnownBytes.{Appends, Keeps};
-ghost use Rattle.report_checking.specs.Checking.{IsAllRight, IsRightSoFar};
-ghost use Rattle.report_checking.specs.RightReports.{StopsAtWrong};
+ghost use Rattle.report_checking.specs.Checking.{IsAllRight};
+ghost use Rattle.report_checking.specs.RightReports.{IsRightUnlessUnchecked, StopsAtWrong};
 ghost use Rattle.report_checking.specs.Outcomes.{TellsAll, TellsPart};
 ghost use Rattle.byte_lines.specs.Exits.{exit_words};
 ghost use Rattle.byte_lines.specs.Faults.{NoneFailed, SomeFailed};
@@ -26,7 +26,8 @@ const HELP: &str =
     r#"cobra_check checks what Zanteyard's auditor replied to a script, without any search and without
 believing the auditor. It reads on standard input the script's lines and the replies by turns: a
 line, then the reply to it. It writes a line for each report and each cut, up to the first reply that
-is wrong, and a last line that counts what was checked.
+is wrong, and a last line that counts what was checked. Of a script that resumes another one, or asks
+for strict serializability, nothing is checked.
 
   cobra_check < LINES      checks the replies
   cobra_check --help       writes this
@@ -35,8 +36,8 @@ is wrong, and a last line that counts what was checked.
   paste -d '\n' SCRIPT REPLIES | cobra_check     checks the replies in one file to the script in another
 
 The exit status is 0 where all replies are right; 3 where one is wrong; 4 where none is, but some say
-that memory was wanting, which isn't checked; 1 where a device failed or memory was wanting here, which
-standard error then tells; 2 for other arguments.
+that memory was wanting, which isn't checked, or nothing of the script is; 1 where a device failed or
+memory was wanting here, which standard error then tells; 2 for other arguments.
 
 Each yes and each no is checked, but not that the search that the line asked for would have found it;
 nor is it checked of a spent report that the budget didn't reach.
@@ -51,10 +52,10 @@ fn run<R: ByteSource, W: ByteSink>(
     input: &mut R,
     output: &mut W,
 ) -> Exit
-    // Status 0 says that all replies are right, 3 that one is wrong, and 4 that none is, but some say that memory was wanting, which isn't checked.
+    // Status 0 says that all replies are right, 3 that one is wrong, and 4 that none is, but not all are checked.
     ensures right { asked ≡ Ok Asked.Work → result.status ≡ 0 → IfSome (R.remaining input.old) IsAllRight }
     ensures wrong { asked ≡ Ok Asked.Work → result.status ≡ 3 → IfSome (R.remaining input.old) StopsAtWrong }
-    ensures unchecked { asked ≡ Ok Asked.Work → result.status ≡ 4 → IfSome (R.remaining input.old) IsRightSoFar }
+    ensures unchecked { asked ≡ Ok Asked.Work → result.status ≡ 4 → IfSome (R.remaining input.old) IsRightUnlessUnchecked }
 
     // What was written is a line of each reply, by what was found of it, and at its end the same as the status.
     ensures told_right { asked ≡ Ok Asked.Work → result.status ≡ 0 → TellsAll Outcome.Right (R.remaining input.old) (W.contents output.old) (W.contents output.new) }

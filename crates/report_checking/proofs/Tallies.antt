@@ -1,9 +1,9 @@
 -- What is counted and told of one reply more.
-use Rattle.std.proofs.Common.{◌≡◌, ℕ, ◌+◌, ◌-◌, ◌^◌, min, cond, Bool, true, false, List, [], ◌∷◌, ◌++◌, length, count_by, append_assoc, append-nil, refl, ap, ap₂, sym, ◌∙◌, subst, arith}
+use Rattle.std.proofs.Common.{◌≡◌, ℕ, ◌+◌, ◌-◌, ◌^◌, min, cond, if◌then◌else◌, Bool, true, false, List, [], ◌∷◌, ◌++◌, length, count_by, append_assoc, append-nil, refl, ap, ap₂, sym, ◌∙◌, subst, arith}
 use Rattle.std.proofs.lemmas.List.{length-append}
 use Rattle.std.proofs.lemmas.List.Sums.{sum_by_push}
 use Rattle.order_check.specs.declared.remainder.Kind.TheVariants as kinds
-use Rattle.report_checking.specs.Telling.{as_counted, one_more, counted, tally_of, no_tally, is_report, is_spent, is_unchecked, lines_told, found_line}
+use Rattle.report_checking.specs.Telling.{as_counted, one_more, counted, owes_nothing, tally_of, no_tally, is_report, is_spent, is_unchecked, lines_told, found_line}
 use Rattle.report_checking.specs.declared.findings.Fault.{Fault}
 use Rattle.report_checking.specs.declared.findings.Found.{Found}
 use Rattle.report_checking.specs.declared.findings.Found.TheVariants as found
@@ -42,7 +42,11 @@ counted_push all (found.Right (what.Report kinds.Violated)) = same_tally (tally_
 counted_push all (found.Right what.Cut) = same_tally (tally_of (all ++ (found.Right what.Cut) ∷ [])) (counted (tally_of all) (found.Right what.Cut)) (number_push all (found.Right what.Cut)) (count_no is_report all (found.Right what.Cut) refl) (count_no is_spent all (found.Right what.Cut) refl) (count_no is_unchecked all (found.Right what.Cut) refl)
 counted_push all (found.Right what.Other) = same_tally (tally_of (all ++ (found.Right what.Other) ∷ [])) (counted (tally_of all) (found.Right what.Other)) (number_push all (found.Right what.Other)) (count_no is_report all (found.Right what.Other) refl) (count_no is_spent all (found.Right what.Other) refl) (count_no is_unchecked all (found.Right what.Other) refl)
 counted_push all found.Unchecked = same_tally (tally_of (all ++ found.Unchecked ∷ [])) (counted (tally_of all) found.Unchecked) (number_push all found.Unchecked) (count_no is_report all found.Unchecked refl) (count_no is_spent all found.Unchecked refl) (count_yes is_unchecked all found.Unchecked refl)
-counted_push all (found.Wrong why) = same_tally (tally_of (all ++ (found.Wrong why) ∷ [])) (counted (tally_of all) (found.Wrong why)) (number_push all (found.Wrong why)) (count_no is_report all (found.Wrong why) refl) (count_no is_spent all (found.Wrong why) refl) (count_no is_unchecked all (found.Wrong why) refl)
+counted_push all (found.Wrong why) = by_owed (owes_nothing why) refl
+  where
+    by_owed : (b : Bool) → owes_nothing why ≡ b → tally_of (all ++ found.Wrong why ∷ []) ≡ counted (tally_of all) (found.Wrong why)
+    by_owed true is = same_tally (tally_of (all ++ (found.Wrong why) ∷ [])) (counted (tally_of all) (found.Wrong why)) (number_push all (found.Wrong why)) (count_no is_report all (found.Wrong why) refl) (count_no is_spent all (found.Wrong why) refl) (count_yes is_unchecked all (found.Wrong why) is ∙ sym (ap (λ (b : Bool). if b then one_more (tally_of all).unchecked else (tally_of all).unchecked) is))
+    by_owed false is = same_tally (tally_of (all ++ (found.Wrong why) ∷ [])) (counted (tally_of all) (found.Wrong why)) (number_push all (found.Wrong why)) (count_no is_report all (found.Wrong why) refl) (count_no is_spent all (found.Wrong why) refl) (count_no is_unchecked all (found.Wrong why) is ∙ sym (ap (λ (b : Bool). if b then one_more (tally_of all).unchecked else (tally_of all).unchecked) is))
 
 pub counted_none : tally_of [] ≡ no_tally
 counted_none = refl

@@ -1,17 +1,19 @@
 -- What is written of one reply after another.
-use Rattle.std.proofs.Common.{◌≡◌, ◌≢◌, ℕ, zero, suc, ◌<◌, ◌==◌, List, [], ◌∷◌, ◌++◌, count_by, Option, Some, None, Bool, true, false, if◌then◌else◌, IfSome, refl, ap, sym, ◌∙◌, subst, append-nil, inl, inr, arith}
+use Rattle.std.proofs.Common.{◌≡◌, ◌≢◌, ℕ, zero, suc, ◌+◌, ◌<◌, ◌==◌, cond, length, List, [], ◌∷◌, ◌++◌, count_by, Option, Some, None, Bool, true, false, if◌then◌else◌, IfSome, refl, ap, sym, ◌∙◌, subst, append-nil, inl, inr, arith}
 use Rattle.std.specs.Io.KnownBytes.{Appends}
 use Rattle.std.proofs.KnownBytes.{Appends-nil, Appends-trans}
 use Rattle.std.proofs.lemmas.Bool.Decides.{eqb_tells}
+use Rattle.std.proofs.lemmas.List.{length-append}
+use Rattle.std.proofs.lemmas.List.Sums.{sum_by_push}
 use Rattle.byte_lines.specs.declared.lines.Next.{Next}
 use Rattle.byte_lines.specs.declared.lines.Next.TheVariants.{End}
 use Rattle.byte_lines.specs.LineReaders.{IsNextOf}
 use Rattle.byte_lines.specs.Lines.{lines}
-use Rattle.report_checking.specs.Checking.{FindsRight, IsAllRight, IsRightSoFar, start}
+use Rattle.report_checking.specs.Checking.{FindsRight, IsAllRight, start}
 use Rattle.report_checking.specs.Outcomes.{FindsAll, FindsLines, FindsRightFirst, TellsFirst}
 use Rattle.report_checking.specs.Reading.{Advances, IsChecking, IsFine, LeadsOn, StopsOn, TellsFront}
-use Rattle.report_checking.specs.RightReports.{StopsAtWrong}
-use Rattle.report_checking.specs.Telling.{AppendsFront, TellsNext, as_counted, counted, found_line, is_unchecked, last_line, lines_told, no_tally, one_more, outcome_of, tally_of, told_of}
+use Rattle.report_checking.specs.RightReports.{EndsUnchecked, FindsWrong, IsRightUnlessUnchecked, StopsAtWrong}
+use Rattle.report_checking.specs.Telling.{AppendsFront, TellsNext, as_counted, counted, found_line, is_unchecked, last_line, lines_told, no_tally, one_more, outcome_of, owes_nothing, tally_of, told_of}
 use Rattle.report_checking.specs.declared.findings.Fault.{Fault}
 use Rattle.report_checking.specs.declared.findings.Found.{Found}
 use Rattle.report_checking.specs.declared.findings.Found.TheVariants as found
@@ -68,16 +70,34 @@ told_more left a c script after_script old new first before after next given is 
       checks = λ input told. advances_fine a c given script after_script fine advances_it input so.all (so.checks input told);
     }
 
--- one more that is
-pub told_wrong : (left : Option (List ℕ)) (a c : Option (List (List ℕ))) (script after_script : Option OpenScript) (old new : Tally) (first before after : Option (List ℕ)) (next : Option Found) (given : Found) (why : Fault) → next ≡ Some given → given ≡ found.Wrong why
-    → HasTold left a script old first before → TellsNext next old new before after → Advances a script next c after_script → EndsTold false left new first after
-told_wrong left a c script after_script old new first before after next given why is wrong so tells advances =
+-- the last of two equal lists
+last_same : (xs ys : List Found) (a b : Found) → xs ++ a ∷ [] ≡ ys ++ b ∷ [] → a ≡ b
+last_same [] [] a b same = cc
+last_same [] (y ∷ ys) a b same = absurd (let long = ap length same ∙ ap suc (length-append ys (b ∷ [])) in omega (arith, long))
+last_same (x ∷ xs) [] a b same = absurd (let long = sym (ap suc (length-append xs (a ∷ []))) ∙ ap length same in omega (arith, long))
+last_same (x ∷ xs) (y ∷ ys) a b same = last_same xs ys a b (let rest : xs ++ a ∷ [] ≡ ys ++ b ∷ [] = cc in rest)
+
+-- what was found last is what isn't right
+why_last : (input : List ℕ) (all : List Found) (why : Fault) → (finds : FindsWrong input (all ++ found.Wrong why ∷ [])) → owes_nothing finds.why ≡ owes_nothing why
+why_last input all why finds =
+    let last : found.Wrong why ≡ found.Wrong finds.why = last_same all finds.right (found.Wrong why) (found.Wrong finds.why) finds.all_is in
+    let same : finds.why ≡ why = cc in
+    ap owes_nothing same
+
+ends_by : (owed_none : Bool) (input : List ℕ) (all : List Found) (why : Fault) → owes_nothing why ≡ owed_none → FindsWrong input (all ++ found.Wrong why ∷ []) → FindsLines owed_none input (all ++ found.Wrong why ∷ [])
+ends_by true input all why is finds = inr (finds, why_last input all why finds ∙ is)
+ends_by false input all why is finds = (finds, why_last input all why finds ∙ is)
+
+-- one more that isn't right
+pub told_wrong : (left : Option (List ℕ)) (a c : Option (List (List ℕ))) (script after_script : Option OpenScript) (old new : Tally) (first before after : Option (List ℕ)) (next : Option Found) (given : Found) (why : Fault) (owed_none : Bool) → next ≡ Some given → given ≡ found.Wrong why → owed_none ≡ owes_nothing why
+    → HasTold left a script old first before → TellsNext next old new before after → Advances a script next c after_script → EndsTold owed_none left new first after
+told_wrong left a c script after_script old new first before after next given why owed_none is wrong owes so tells advances =
     let same : next ≡ Some (found.Wrong why) = is ∙ ap (λ (it : Found). Some it) wrong in
     let tells_it = subst (λ (it : Option Found). TellsNext it old new before after) same tells in
     let advances_it = subst (λ (it : Option Found). Advances a script it c after_script) same advances in (
       so.all ++ found.Wrong why ∷ [],
       counted_next old new so.all (found.Wrong why) so.counts tells_it.0,
-      if_some left (λ input. FindsLines false input (so.all ++ found.Wrong why ∷ [])) (λ input told. advances_it input so.all (so.checks input told)),
+      if_some left (λ input. FindsLines owed_none input (so.all ++ found.Wrong why ∷ [])) (λ input told. ends_by owed_none input so.all why (sym owes) (advances_it input so.all (so.checks input told))),
       written_next old new so.all (found.Wrong why) first before after so.counts tells_it.0 so.writes tells_it.1,
     )
 
@@ -85,7 +105,7 @@ pub told_end : (left : Option (List ℕ)) (a c : Option (List (List ℕ))) (scri
 told_end left a c script after_script old new first before after so tells advances = (
   so.all,
   tells.0 ∙ so.counts,
-  if_some left (λ input. FindsLines true input so.all) (λ input is. advances input so.all (so.checks input is)),
+  if_some left (λ input. FindsLines true input so.all) (λ input is. inl (advances input so.all (so.checks input is))),
   subst (Appends first after) (append-nil (lines_told 0 so.all)) (Appends-trans first before after (lines_told 0 so.all) [] so.writes tells.1),
 )
 
@@ -118,7 +138,17 @@ line_front limit now a b c next given old new tally more before after same is so
 
 by_count : (input : List ℕ) (all : List Found) → FindsRight input all → (none : Bool) → (none ≡ true → count_by is_unchecked all ≡ 0) → (none ≡ false → 0 < count_by is_unchecked all) → FindsAll (if none then outcomes.Right else outcomes.Unchecked) input all
 by_count input all finds true none some = (finds, none refl)
-by_count input all finds false none some = (finds, some refl)
+by_count input all finds false none some = inl (finds, some refl)
+
+-- where nothing is owed to the last one's line, it is counted
+left_counts : (input : List ℕ) (all : List Found) → EndsUnchecked input all → 0 < count_by is_unchecked all
+left_counts input all (finds, owes) =
+    let whole = ap (count_by is_unchecked) finds.all_is ∙ sum_by_push (λ x. cond (is_unchecked x) 1 0) finds.right (found.Wrong finds.why) ∙ ap (λ (b : Bool). count_by is_unchecked finds.right + cond b 1 0) owes in
+    omega (arith, whole)
+
+by_left : (input : List ℕ) (all : List Found) → EndsUnchecked input all → (none : Bool) → (none ≡ true → count_by is_unchecked all ≡ 0) → FindsAll (if none then outcomes.Right else outcomes.Unchecked) input all
+by_left input all left true none = absurd (let some = left_counts input all left in let no = none refl in omega (arith, some, no))
+by_left input all left false none = inr left
 
 true_not_false : true ≡ false → ⊥
 true_not_false is = cc
@@ -139,7 +169,8 @@ counts_some n is = elim (eqb_tells (as_counted n) 0) [ inl both ↦ absurd (true
 
 finds_outcome : (none_is_wrong : Bool) (input : List ℕ) (all : List Found) → FindsLines none_is_wrong input all → FindsAll (outcome_of (tally_of all) none_is_wrong) input all
 finds_outcome false input all finds = finds
-finds_outcome true input all finds = by_count input all finds (as_counted (count_by is_unchecked all) == 0) (counts_none (count_by is_unchecked all)) (counts_some (count_by is_unchecked all))
+finds_outcome true input all (inl finds) = by_count input all finds (as_counted (count_by is_unchecked all) == 0) (counts_none (count_by is_unchecked all)) (counts_some (count_by is_unchecked all))
+finds_outcome true input all (inr left) = by_left input all left (as_counted (count_by is_unchecked all) == 0) (counts_none (count_by is_unchecked all))
 
 some_finds : (none_is_wrong : Bool) (left : Option (List ℕ)) (all : List Found) → IfSome left (λ input. FindsLines none_is_wrong input all) → IfSome left (λ input. FindsAll (outcome_of (tally_of all) none_is_wrong) input all)
 some_finds none_is_wrong None all finds = tt
@@ -163,10 +194,13 @@ all_right None tally before after outcome ends is = tt
 all_right (Some input) tally before after outcome ends is =
     let finds = subst (λ (o : Outcome). FindsAll o input ends.0) is ends.2 in (ends.0, finds.0, finds.1)
 
-pub right_so_far : (left : Option (List ℕ)) (tally : Tally) (before after : Option (List ℕ)) (outcome : Outcome) → EndsAs outcome left tally before after → outcome ≡ outcomes.Unchecked → IfSome left IsRightSoFar
+so_far : (input : List ℕ) (all : List Found) → FindsAll outcomes.Unchecked input all → IsRightUnlessUnchecked input
+so_far input all (inl finds) = inl (all, finds.0, finds.1)
+so_far input all (inr left) = inr (all, left)
+
+pub right_so_far : (left : Option (List ℕ)) (tally : Tally) (before after : Option (List ℕ)) (outcome : Outcome) → EndsAs outcome left tally before after → outcome ≡ outcomes.Unchecked → IfSome left IsRightUnlessUnchecked
 right_so_far None tally before after outcome ends is = tt
-right_so_far (Some input) tally before after outcome ends is =
-    let finds = subst (λ (o : Outcome). FindsAll o input ends.0) is ends.2 in (ends.0, finds.0, finds.1)
+right_so_far (Some input) tally before after outcome ends is = so_far input ends.0 (subst (λ (o : Outcome). FindsAll o input ends.0) is ends.2)
 
 pub stops_wrong : (left : Option (List ℕ)) (tally : Tally) (before after : Option (List ℕ)) (outcome : Outcome) → EndsAs outcome left tally before after → outcome ≡ outcomes.Wrong → IfSome left StopsAtWrong
 stops_wrong None tally before after outcome ends is = tt

@@ -4,19 +4,19 @@ use Rattle.std.specs.Io.KnownBytes.{Appends}
 use Rattle.byte_lines.specs.Lines.{lines}
 use Rattle.report_checking.specs.Checking.{Checks, FindsRight}
 use Rattle.report_checking.specs.OwedLines.{ScriptState}
-use Rattle.report_checking.specs.RightReports.{FindsWrong}
+use Rattle.report_checking.specs.RightReports.{EndsAtWrong, EndsUnchecked, FindsWrong}
 use Rattle.report_checking.specs.Telling.{AppendsFront, is_unchecked, lines_told, tally_of, told_of}
 use Rattle.report_checking.specs.declared.findings.Found.{Found}
 use Rattle.report_checking.specs.declared.texts.Tally.{Tally}
 use Rattle.report_checking.specs.declared.findings.Outcome.{Outcome}
 use Rattle.report_checking.specs.declared.findings.Outcome.TheVariants.{Right, Unchecked, Wrong}
 
--- This is found of the input's replies, by what the check comes to: each is right; or none is wrong, and some aren't checked; or the last one
--- found is wrong.
+-- This is found of the input's replies, by what the check comes to: each is right; or none is wrong, and some aren't checked, or nothing is owed
+-- to the last one's line; or the last one found is wrong.
 abbrev pub FindsAll : Outcome → List ℕ → List Found → Type 0
 FindsAll Right input all = FindsRight input all × (count_by is_unchecked all ≡ 0)
-FindsAll Unchecked input all = FindsRight input all × (0 < count_by is_unchecked all)
-FindsAll Wrong input all = FindsWrong input all
+FindsAll Unchecked input all = (FindsRight input all × (0 < count_by is_unchecked all)) ⊎ EndsUnchecked input all
+FindsAll Wrong input all = EndsAtWrong input all
 
 -- The first lines of the input are those of a script and right replies to them, by turns; and this is found of the replies.
 pub record FindsRightFirst (input : List ℕ) (all : List Found) : Type 0 where
@@ -26,7 +26,7 @@ pub record FindsRightFirst (input : List ℕ) (all : List Found) : Type 0 where
   pub state : Option ScriptState
   pub checks : Checks front state all
 
--- this is found of the input's first replies, of which the last one may be wrong
+-- this is found of the input's first replies, of which the last one may not be right
 abbrev pub FindsFirst : List ℕ → List Found → Type 0
 FindsFirst input all = FindsRightFirst input all ⊎ FindsWrong input all
 
@@ -48,8 +48,8 @@ TellsPart input before after = (text : List ℕ) × IfSome input (λ bytes. Tell
 
 -- this is found of the input's replies, by whether none is wrong
 abbrev pub FindsLines : Bool → List ℕ → List Found → Type 0
-FindsLines true input all = FindsRight input all
-FindsLines false input all = FindsWrong input all
+FindsLines true input all = FindsRight input all ⊎ EndsUnchecked input all
+FindsLines false input all = EndsAtWrong input all
 
 -- it is counted and written, without a last line
 abbrev pub TellsLines : Bool → Option (List ℕ) → Tally → Option (List ℕ) → Option (List ℕ) → Type 0

@@ -29,7 +29,7 @@ names_told None = Ids
 names_told (Some script) = names_of script.opening
 
 -- What is owed to a command, where none is open yet. To one that begins a hand-over nothing is, since what had gone before isn't
--- shown; nor to one that asks for strict serializability, of which nothing is checked. An engine whose
+-- shown; nor to one that asks for strict serializability: a script that begins so isn't checked. An engine whose
 -- transactions are split has room for two of each.
 abbrev pub OwesFirst : Command → Reply → Option ScriptState → Type 0
 OwesFirst (Start sessions limit version) told.Done new = AreVersionSessions version sessions × IsVersionLimit version limit × (new ≡ Some (record { state = fresh_state (most_sessions version) sessions limit; opening = Ordered version; searched = false }))

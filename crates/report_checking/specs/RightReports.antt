@@ -1,5 +1,5 @@
--- Scripts of which a stored reply is told wrong: the first such reply isn't a right one.
-use Rattle.std.specs.Prelude.{◌≡◌, ◌≢◌, ◌<◌, ⊤, ℕ, true, false, List, [], ◌∷◌, ◌++◌, length, Option, Some, None}
+-- Scripts of which a stored reply is told wrong, or of which nothing is checked from some line on: the first such reply isn't a right one.
+use Rattle.std.specs.Prelude.{◌≡◌, ◌≢◌, ◌<◌, ◌⊎◌, ⊤, ℕ, true, false, List, [], ◌∷◌, ◌++◌, length, Option, Some, None}
 use Rattle.log_text.specs.declared.commands.Command.{Command}
 use Rattle.log_text.specs.declared.commands.Command.TheVariants.{Finish, Round, Collect, Answer}
 use Rattle.log_text.specs.declared.replies.Reply.{Reply}
@@ -19,11 +19,12 @@ use Rattle.round_state.specs.declared.steps.StepReply.TheVariants as reply
 use Rattle.isolation_scripts.specs.Legal.{LegalIsolation}
 use Rattle.cobra.specs.Outputs.{Asks}
 use Rattle.cobra.specs.StepReplies.{claim_of, report_of}
-use Rattle.report_checking.specs.Checking.{Checks, IsRightReply, IsUnchecked}
+use Rattle.report_checking.specs.Checking.{Checks, IsRightReply, IsRightSoFar, IsUnchecked}
 use Rattle.report_checking.specs.Isolation.{IsOwedIsolation, names_of, told_by}
 use Rattle.log_text.specs.Shown.{IsShownIn}
 use Rattle.report_checking.specs.OwedLines.{OwesLine, ScriptState}
 use Rattle.report_checking.specs.Owing.{IsOwedReport}
+use Rattle.report_checking.specs.Telling.{owes_nothing}
 use Rattle.report_checking.specs.Unshown.{IsUnshown}
 use Rattle.report_checking.specs.declared.findings.Fault.{Fault}
 use Rattle.report_checking.specs.declared.findings.Fault.TheVariants as fault
@@ -106,7 +107,7 @@ HasFault state (line ∷ stored ∷ left) (fault.Other text) = IsWrongReply stat
 HasFault state (line ∷ stored ∷ left) (fault.Unshown why) = IsWrongReply state line stored × IsUnshown state line stored why
 HasFault state left why = ⊥
 
--- The input's lines were checked up to a reply that is wrong; and this is found of the replies, of the last one what is wrong with it.
+-- The input's lines were checked up to a reply that isn't right; and this is found of the replies, of the last one why it isn't.
 pub record FindsWrong (input : List ℕ) (all : List Found) : Type 0 where
   pub front : List (List ℕ)
   pub left : List (List ℕ)
@@ -118,5 +119,21 @@ pub record FindsWrong (input : List ℕ) (all : List Found) : Type 0 where
   pub wrong : HasFault state left why
   pub all_is : all ≡ right ++ found.Wrong why ∷ []
 
+-- so it is, and the last one is wrong: something is owed to its line
+abbrev pub EndsAtWrong : List ℕ → List Found → Type 0
+EndsAtWrong input all = (finds : FindsWrong input all) × (owes_nothing finds.why ≡ false)
+
+-- so it is, and nothing is owed to the last one's line, with which a script begins that isn't checked
+abbrev pub EndsUnchecked : List ℕ → List Found → Type 0
+EndsUnchecked input all = (finds : FindsWrong input all) × (owes_nothing finds.why ≡ true)
+
 abbrev pub StopsAtWrong : List ℕ → Type 0
-StopsAtWrong input = (all : List Found) × FindsWrong input all
+StopsAtWrong input = (all : List Found) × EndsAtWrong input all
+
+abbrev pub StopsUnchecked : List ℕ → Type 0
+StopsUnchecked input = (all : List Found) × EndsUnchecked input all
+
+-- No reply is wrong, and not all are checked: some say that memory was wanting, and the others are right; or the check stops where a script
+-- begins that isn't checked.
+abbrev pub IsRightUnlessUnchecked : List ℕ → Type 0
+IsRightUnlessUnchecked input = IsRightSoFar input ⊎ StopsUnchecked input

@@ -42,9 +42,16 @@ abbrev pub is_spent : Found → Bool
 is_spent (found.Right (what.Report kinds.Spent)) = true
 is_spent other = false
 
+-- Nothing is owed to the line, whatever is replied: what its script begins with isn't checked.
+abbrev pub owes_nothing : Fault → Bool
+owes_nothing (fault.Unshown unshown.Beginning) = true
+owes_nothing (fault.Unshown unshown.Strict) = true
+owes_nothing other = false
+
 abbrev pub is_unchecked : Found → Bool
 is_unchecked found.Unchecked = true
-is_unchecked other = false
+is_unchecked (found.Wrong why) = owes_nothing why
+is_unchecked (found.Right what) = false
 
 -- How many replies there are, and of them how many reports, spent ones by themselves, and how many that aren't checked.
 abbrev pub tally_of : List Found → Tally
@@ -64,13 +71,13 @@ words_of (what.Report kinds.Violated) = Some (codes "violated, right")
 words_of what.Cut = Some (codes "cut, right")
 words_of what.Other = None
 
--- the words for one that is wrong: where another one is owed, its text
+-- the words for one that isn't right: where another one is owed, its text
 abbrev pub words_of_fault : Fault → List ℕ
 words_of_fault (fault.Other text) = codes "wrong: owed is "
 words_of_fault (fault.Unshown unshown.Order) = codes "wrong: its order doesn't explain what had been accepted"
 words_of_fault (fault.Unshown unshown.Refutation) = codes "wrong: it refutes nothing of what had been accepted"
-words_of_fault (fault.Unshown unshown.Beginning) = codes "wrong: its script resumes another, and what had gone before isn't shown"
-words_of_fault (fault.Unshown unshown.Strict) = codes "wrong: its script asks for strict serializability, which isn't checked"
+words_of_fault (fault.Unshown unshown.Beginning) = codes "not checked: its script resumes another, and what had gone before isn't shown"
+words_of_fault (fault.Unshown unshown.Strict) = codes "not checked: its script asks for strict serializability"
 words_of_fault fault.Missing = codes "wrong: the line has no reply"
 words_of_fault fault.TooLong = codes "wrong: it is too long to be read"
 
@@ -137,6 +144,7 @@ abbrev pub counted : Tally → Found → Tally
 counted tally (found.Right (what.Report kinds.Spent)) = record tally { replies = one_more tally.replies; spent = one_more tally.spent }
 counted tally (found.Right (what.Report kind)) = record tally { replies = one_more tally.replies; reports = one_more tally.reports }
 counted tally found.Unchecked = record tally { replies = one_more tally.replies; unchecked = one_more tally.unchecked }
+counted tally (found.Wrong why) = record tally { replies = one_more tally.replies; unchecked = if owes_nothing why then one_more tally.unchecked else tally.unchecked }
 counted tally other = record tally { replies = one_more tally.replies }
 
 -- what is counted and written of what was found of the next line's reply, where there is a next line

@@ -1,9 +1,9 @@
 ghost use Rattle.std.specs.Prelude.{◌≡◌, ℕ, ◌+◌, ◌<◌, List, [], Some, None, IfOk, IfSome, OnOk, OnErr, OnSome, IsErrOf};
 ghost use Rattle.byte_lines.specs.Faults.{NoneFailed, OneFailed};
 ghost use Rattle.byte_lines.specs.LineReaders.{lines_ahead, lines_left};
-ghost use Rattle.report_checking.specs.Checking.{IsAllRight, IsRightSoFar};
+ghost use Rattle.report_checking.specs.Checking.{IsAllRight};
 ghost use Rattle.report_checking.specs.Reading.{IsRead, IsFine, FindsNext, LeadsOn, Advances, IsFairNext, IsOtherwiseNext, StopsOn, TellsFront};
-ghost use Rattle.report_checking.specs.RightReports.{StopsAtWrong};
+ghost use Rattle.report_checking.specs.RightReports.{IsRightUnlessUnchecked, StopsAtWrong};
 ghost use Rattle.report_checking.specs.Outcomes.{TellsAll, TellsLines, TellsPart};
 ghost use Rattle.report_checking.specs.Telling.{TellsNext, no_tally};
 ghost use Rattle.cobra.specs.Outputs.{IsTold};
@@ -109,7 +109,7 @@ fn check_next<R: ByteSource, W: ByteSink>(
     Ok(Some(found))
 }
 
-/// Checks line after line, up to the first reply that is wrong. Answers whether none was.
+/// Checks line after line, up to the first reply that isn't right, but for want of memory. Answers whether none was wrong.
 fn check_lines<R: ByteSource, W: ByteSink>(
     alloc: Global,
     reader: &mut LineReader,
@@ -133,8 +133,8 @@ fn check_lines<R: ByteSource, W: ByteSink>(
         let Some(found) = check_next(alloc, reader, replay, tally, source, sink)? else {
             return Ok(true);
         };
-        if let Found::Wrong(_) = found {
-            return Ok(false);
+        if let Found::Wrong(fault) = &found {
+            return Ok(fault.owes_nothing());
         }
     }
 }
@@ -153,7 +153,7 @@ fn check_all<R: ByteSource, W: ByteSink>(
     requires under_way { reader.old.under_way ≡ Some [] }
     requires unopened { replay.old.script ≡ None }
     ensures right { IfOk result (λ outcome. outcome ≡ Outcome.Right → IfSome (R.remaining source.old) IsAllRight) }
-    ensures unchecked { IfOk result (λ outcome. outcome ≡ Outcome.Unchecked → IfSome (R.remaining source.old) IsRightSoFar) }
+    ensures unchecked { IfOk result (λ outcome. outcome ≡ Outcome.Unchecked → IfSome (R.remaining source.old) IsRightUnlessUnchecked) }
     ensures wrong { IfOk result (λ outcome. outcome ≡ Outcome.Wrong → IfSome (R.remaining source.old) StopsAtWrong) }
     ensures told { IfOk result (λ outcome. TellsAll outcome (R.remaining source.old) (W.contents sink.old) (W.contents sink.new)) }
     ensures front { OnErr result (TellsPart (R.remaining source.old) (W.contents sink.old) (W.contents sink.new)) }
@@ -169,15 +169,16 @@ fn check_all<R: ByteSource, W: ByteSink>(
 }
 
 /// Checks what an auditor replied to a script: the input has the script's lines and the replies by turns. It writes a line for each report,
-/// each cut and each reply that isn't right or isn't checked, and a last one that counts them. Answers what that comes to; what
-/// comes behind the first that is wrong isn't read. A right reply is never told wrong, a report as an auditor writes it.
+/// each cut and each reply that isn't right or isn't checked, and a last one that counts them. Answers what that comes to. What
+/// comes behind the first that is wrong isn't read, nor what comes behind a line with which a script begins that isn't checked. A right
+/// reply is never told wrong, a report as an auditor writes it.
 pub fn check_replies<R: ByteSource, W: ByteSink>(
     alloc: Global,
     source: &mut R,
     sink: &mut W,
 ) -> Result<Outcome, Failure>
     ensures right { IfOk result (λ outcome. outcome ≡ Outcome.Right → IfSome (R.remaining source.old) IsAllRight) }
-    ensures unchecked { IfOk result (λ outcome. outcome ≡ Outcome.Unchecked → IfSome (R.remaining source.old) IsRightSoFar) }
+    ensures unchecked { IfOk result (λ outcome. outcome ≡ Outcome.Unchecked → IfSome (R.remaining source.old) IsRightUnlessUnchecked) }
     ensures wrong { IfOk result (λ outcome. outcome ≡ Outcome.Wrong → IfSome (R.remaining source.old) StopsAtWrong) }
     // What is written is a line of each reply, by what is found of it, and at its end what that comes to.
     ensures told { IfOk result (λ outcome. TellsAll outcome (R.remaining source.old) (W.contents sink.old) (W.contents sink.new)) }

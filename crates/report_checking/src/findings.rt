@@ -1,5 +1,5 @@
 ghost use Rattle.std.specs.Prelude.{◌≡◌};
-ghost use Rattle.report_checking.specs.Telling.{what_of};
+ghost use Rattle.report_checking.specs.Telling.{owes_nothing, what_of};
 
 use log_text::Reply;
 use order_check::Kind;
@@ -25,7 +25,7 @@ pub(crate) enum Unshown {
     Strict,
 }
 
-/// Why a reply is wrong.
+/// Why a reply isn't right.
 #[derive(Drop, Debug)]
 pub(crate) enum Fault {
     /// This text is owed, and another one is stored.
@@ -37,12 +37,22 @@ pub(crate) enum Fault {
     TooLong,
 }
 
+impl Fault {
+    /// Whether nothing is owed to the line, whatever is replied: what its script begins with isn't checked.
+    pub(crate) fn owes_nothing(&self) -> bool
+        ensures { result ≡ owes_nothing self.now }
+    {
+        matches!(self, Fault::Unshown(Unshown::Beginning | Unshown::Strict))
+    }
+}
+
 /// What was found of a reply.
 #[derive(Drop, Debug)]
 pub(crate) enum Found {
     Right(What),
     /// It says that memory was wanting: nothing is known of that.
     Unchecked,
+    /// It isn't right: it is wrong, unless nothing is owed to the line.
     Wrong(Fault),
 }
 
@@ -51,7 +61,7 @@ pub(crate) enum Found {
 pub enum Outcome {
     /// All replies are right.
     Right,
-    /// None is wrong, and some say that memory was wanting, of which nothing is known.
+    /// None is wrong, but not all are checked: some say that memory was wanting, or what the script begins with isn't checked.
     Unchecked,
     /// One is wrong.
     Wrong,

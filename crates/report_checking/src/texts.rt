@@ -39,7 +39,12 @@ impl Tally {
             Found::Right(What::Report(Kind::Spent)) => self.spent = self.spent.saturating_add(1),
             Found::Right(What::Report(_)) => self.reports = self.reports.saturating_add(1),
             Found::Unchecked => self.unchecked = self.unchecked.saturating_add(1),
-            Found::Right(_) | Found::Wrong(_) => {}
+            Found::Wrong(fault) => {
+                if fault.owes_nothing() {
+                    self.unchecked = self.unchecked.saturating_add(1);
+                }
+            }
+            Found::Right(_) => {}
         }
     }
 
@@ -106,9 +111,9 @@ fn words_of_fault(fault: &Fault) -> &'static str
         Fault::Unshown(Unshown::Refutation) =>
             "wrong: it refutes nothing of what had been accepted",
         Fault::Unshown(Unshown::Beginning) =>
-            "wrong: its script resumes another, and what had gone before isn't shown",
+            "not checked: its script resumes another, and what had gone before isn't shown",
         Fault::Unshown(Unshown::Strict) =>
-            "wrong: its script asks for strict serializability, which isn't checked",
+            "not checked: its script asks for strict serializability",
         Fault::Missing => "wrong: the line has no reply",
         Fault::TooLong => "wrong: it is too long to be read",
     }

@@ -1,5 +1,6 @@
 mod EndReads
 mod KnownEnds
+mod LatestBegins
 mod Lookups
 mod Orders
 mod Pending

@@ -1,5 +1,5 @@
 -- The orders that explain a history and keep real time are those that explain its rewritten history.
-use Rattle.std.proofs.Common.{◌≡◌, ℕ, ◌+◌, ◌<◌, ◌≤◌, ◌^◌, ◌⊎◌, Bool, true, false, List, ◌∷◌, ◌++◌, length, Some, None, Option, refl, sym, ap, subst, ◌∙◌, inl, inr, arith, IsSome}
+use Rattle.std.proofs.Common.{◌≡◌, ℕ, ◌+◌, ◌<◌, ◌≤◌, ◌^◌, ◌⊎◌, Bool, true, false, zero, suc, List, ◌∷◌, ◌++◌, length, Some, None, Option, refl, sym, ap, subst, ◌∙◌, inl, inr, arith, IsSome}
 use Rattle.std.specs.Prelude.{All, option_map}
 use Rattle.std.specs.List.{slice_get, slice_index_or}
 use Rattle.std.proofs.lemmas.Bool.{false≢true, cases_lt, lt-ltb, ltb-true}
@@ -17,21 +17,22 @@ use Rattle.order_check.specs.Whole.{MeetsWhole, ExplainsWhole}
 use Rattle.strict_histories.specs.Laws.{SameOrdersRewritten}
 use Rattle.strict_histories.specs.declared.timed.Span.{Span}
 use Rattle.strict_histories.specs.declared.timed.TimedTxn.{TimedTxn}
-use Rattle.strict_histories.specs.Rewriting.{HasRoomForTimes, is_earlier, end_key, end_reads, ended_before, last_before, strict_history, strict_txn}
+use Rattle.strict_histories.specs.Rewriting.{HasRoomForTimes, is_earlier, end_key, end_reads, ended_before, last_before, last_since, latest_begin, span_at, span_of, strict_history, strict_txn}
 use Rattle.strict_histories.specs.Strict.{TimedHistory, timed_at, untimed, EndedBefore, IsStrictOrder}
-use Rattle.strict_histories.proofs.EndReads.{all_left, all_right, covered_before, end_has, ends_have, found_before, read_of}
+use Rattle.strict_histories.proofs.EndReads.{all_left, all_right, covered_before, end_has, ends_have, found_before, last_is_since, read_of, since_is_last}
+use Rattle.strict_histories.proofs.LatestBegins.{BeganThen, whose_begin}
 use Rattle.strict_histories.proofs.Lookups.{low_keys, low_number, only_own, same_ids, same_writes, some_of_map, strict_at, untimed_at, untimed_session, writes_own}
-use Rattle.strict_histories.proofs.Stands.{KeepsSessions, before_after, front_precedes, in_turn, precedes_front, stands}
+use Rattle.strict_histories.proofs.Stands.{KeepsSessions, before_after, front_precedes, in_turn, never_twice, precedes_front, stands}
 
 -- ---- times
 
+from_earlier : (e o : Option ℕ) → is_earlier e o ≡ true → (ended began : ℕ) × (e ≡ Some ended) × (o ≡ Some began) × (ended < began)
+from_earlier None o h = absurd (false≢true h)
+from_earlier (Some e) None h = absurd (false≢true h)
+from_earlier (Some e) (Some o) h = (e, o, refl, refl, ltb-true e o h)
+
 from_test : (a b : Span) → ended_before a b ≡ true → (ended began : ℕ) × (a.ended ≡ Some ended) × (b.began ≡ Some began) × (ended < began)
-from_test a b h = by_times a.ended b.began refl refl h
-  where
-    by_times : (e o : Option ℕ) → a.ended ≡ e → b.began ≡ o → is_earlier e o ≡ true → (ended began : ℕ) × (a.ended ≡ Some ended) × (b.began ≡ Some began) × (ended < began)
-    by_times None o is was h = absurd (false≢true h)
-    by_times (Some e) None is was h = absurd (false≢true h)
-    by_times (Some e) (Some o) is was h = (e, o, is, was, ltb-true e o h)
+from_test a b h = from_earlier a.ended b.began h
 
 to_test : (a b : Span) (ended began : ℕ) → a.ended ≡ Some ended → b.began ≡ Some began → ended < began → ended_before a b ≡ true
 to_test a b ended began is was below = ap (λ o. is_earlier o b.began) is ∙ ap (is_earlier (Some ended)) was ∙ lt-ltb ended began below
@@ -83,12 +84,12 @@ keeps_untimed : (timed : TimedHistory) (order : List TxnId) → ExplainsWhole (s
 keeps_untimed timed order h s = h.sessions s ∙ same_ids timed s
 
 -- all that a transaction reads is met
-all_met : (timed : TimedHistory) (order front back : List TxnId) (id : TxnId) (t : TimedTxn) → ExplainsWhole (strict_history timed) order → order ≡ front ++ id ∷ back → timed_at timed id ≡ Some t → All (λ read. MeetsWhole (strict_history timed) front read.0 read.1) (t.txn.reads ++ end_reads t.span 0 timed)
+all_met : (timed : TimedHistory) (order front back : List TxnId) (id : TxnId) (t : TimedTxn) → ExplainsWhole (strict_history timed) order → order ≡ front ++ id ∷ back → timed_at timed id ≡ Some t → All (λ read. MeetsWhole (strict_history timed) front read.0 read.1) (t.txn.reads ++ end_reads t.span timed)
 all_met timed order front back id t h split at = h.reads front back id split (strict_txn timed id t) (strict_at timed id ∙ ap (option_map (strict_txn timed id)) at)
 
--- the last of a session that ended before another began stands before that
-last_precedes : (timed : TimedHistory) (order : List TxnId) (s n : ℕ) (other : TxnId) (b : TimedTxn) → ExplainsWhole (strict_history timed) order → timed_at timed other ≡ Some b → last_before b.span 0 (session_of timed s) ≡ Some n → Precedes order (record { session = s; number = n }) other
-last_precedes timed order s n other b h there e = by_place (stands (untimed timed) order other (keeps_untimed timed order h) (within_session timed other b there)) (last_at timed b.span s n e)
+-- one whose end is read stands before the reader
+read_precedes : (timed : TimedHistory) (order : List TxnId) (s n : ℕ) (other : TxnId) (b : TimedTxn) → ExplainsWhole (strict_history timed) order → timed_at timed other ≡ Some b → last_since (latest_begin b.span timed) b.span (session_of timed s) ≡ Some n → Precedes order (record { session = s; number = n }) other
+read_precedes timed order s n other b h there e = by_place (stands (untimed timed) order other (keeps_untimed timed order h) (within_session timed other b there)) (last_at timed b.span s n (since_is_last (latest_begin b.span timed) b.span (session_of timed s) n e))
   where
     source : TxnId
     source = record { session = s; number = n }
@@ -103,26 +104,98 @@ last_precedes timed order s n other b h there e = by_place (stands (untimed time
             zero_first = omega arith
 
             met : MeetsWhole (strict_history timed) front (end_key source) (By source)
-            met = subst (λ j. MeetsWhole (strict_history timed) front (read_of j n).0 (read_of j n).1) zero_first (end_has (λ read. MeetsWhole (strict_history timed) front read.0 read.1) b.span 0 timed (all_right (λ read. MeetsWhole (strict_history timed) front read.0 read.1) b.txn.reads (end_reads b.span 0 timed) (all_met timed order front back other b h split there)) s n e)
+            met = subst (λ j. MeetsWhole (strict_history timed) front (read_of j n).0 (read_of j n).1) zero_first (end_has (λ read. MeetsWhole (strict_history timed) front read.0 read.1) (latest_begin b.span timed) b.span 0 timed (all_right (λ read. MeetsWhole (strict_history timed) front read.0 read.1) b.txn.reads (end_reads b.span timed) (all_met timed order front back other b h split there)) s n e)
 
             by_last : IsLastWriter (txn_at (strict_history timed)) (end_key source) front source → Precedes order source other
             by_last (older, newer, inside, writes, none) = front_precedes order front back older newer source other split inside
 
-keeps_time : (timed : TimedHistory) (order : List TxnId) → ExplainsWhole (strict_history timed) order → (one other : TxnId) → EndedBefore timed one other → Precedes order one other
-keeps_time timed order h one other (a, b, ended, began, at, is, there, was, below) = by_last (covered_before b.span 0 (session_of timed one.session) one.number a at (to_test a.span b.span ended began is was below))
+-- Whoever ended before another one began comes before it, if that one began before this time.
+abbrev pub KeepsTimeBelow : TimedHistory → List TxnId → ℕ → Type 0
+KeepsTimeBelow timed order bound = (one other : TxnId) (a b : TimedTxn) (ended began : ℕ) → timed_at timed one ≡ Some a → a.span.ended ≡ Some ended → timed_at timed other ≡ Some b → b.span.began ≡ Some began → ended < began → began < bound → Precedes order one other
+
+-- the last of a session that ended before another began stands before that: its end is read, or it ended before one began whose end is
+last_precedes : (timed : TimedHistory) (order : List TxnId) (bound s n : ℕ) (other : TxnId) (b : TimedTxn) (began : ℕ) → ExplainsWhole (strict_history timed) order → KeepsTimeBelow timed order bound → timed_at timed other ≡ Some b → b.span.began ≡ Some began → began < suc bound → last_before b.span 0 (session_of timed s) ≡ Some n → Precedes order (record { session = s; number = n }) other
+last_precedes timed order bound s n other b began h kept there was low e = by_end (is_earlier (span_at (session_of timed s) (Some n)).ended since) refl
+  where
+    since : Option ℕ
+    since = latest_begin b.span timed
+
+    source : TxnId
+    source = record { session = s; number = n }
+
+    keeps : KeepsSessions (untimed timed) order
+    keeps = keeps_untimed timed order h
+
+    span_there : (id : TxnId) (u : TimedTxn) → timed_at timed id ≡ Some u → span_at (session_of timed id.session) (Some id.number) ≡ u.span
+    span_there id u at = ap span_of at
+
+    through : (ended time : ℕ) → (span_at (session_of timed s) (Some n)).ended ≡ Some ended → since ≡ Some time → ended < time → Precedes order source other
+    through ended time is latest below = by_found (last_at timed b.span s n e) (last_at timed b.span its.session its.number its.last)
+      where
+        its : BeganThen b.span timed time
+        its = whose_begin b.span timed time latest
+
+        middle : TxnId
+        middle = record { session = its.session; number = its.number }
+
+        early : time < began
+        early = by_time (from_earlier (Some time) b.span.began its.earlier)
+          where
+            by_time : (t o : ℕ) × (Some time ≡ Some t) × (b.span.began ≡ Some o) × (t < o) → time < began
+            by_time (t, o, same, then, less) =
+                let first : time ≡ t = cc in
+                let other_is : Some o ≡ Some began = sym then ∙ was in
+                let second : o ≡ began = cc in
+                omega (arith, first, second, less)
+
+        by_found : (u : TimedTxn) × (timed_at timed source ≡ Some u) × (ended_before u.span b.span ≡ true) → (v : TimedTxn) × (timed_at timed middle ≡ Some v) × (ended_before v.span b.span ≡ true) → Precedes order source other
+        by_found (u, at, _) (v, here, _) = before_after (untimed timed) order source middle other keeps first (second (is_earlier (span_at (session_of timed its.session) (Some its.number)).ended since) refl)
+          where
+            begins : v.span.began ≡ Some time
+            begins = sym (ap (λ (x : Span). x.began) (span_there middle v here)) ∙ its.is
+
+            first : Precedes order source middle
+            first = kept source middle u v ended time at (sym (ap (λ (x : Span). x.ended) (span_there source u at)) ∙ is) here begins below (omega (arith, early, low))
+
+            never : is_earlier (span_at (session_of timed its.session) (Some its.number)).ended since ≡ true → ⊥
+            never test = by_times (from_earlier (span_at (session_of timed its.session) (Some its.number)).ended since test)
+              where
+                by_times : (x y : ℕ) × ((span_at (session_of timed its.session) (Some its.number)).ended ≡ Some x) × (since ≡ Some y) × (x < y) → ⊥
+                by_times (x, y, ends, then, less) =
+                    let twice : Some y ≡ Some time = sym then ∙ latest in
+                    let same : y ≡ time = cc in
+                    never_twice (untimed timed) order middle keeps (kept middle middle v v x time here (sym (ap (λ (z : Span). z.ended) (span_there middle v here)) ∙ ends) here begins (omega (arith, less, same)) (omega (arith, early, low)))
+
+            second : (late : Bool) → is_earlier (span_at (session_of timed its.session) (Some its.number)).ended since ≡ late → Precedes order middle other
+            second false test = read_precedes timed order its.session its.number other b h there (last_is_since since b.span (session_of timed its.session) its.number its.last test)
+            second true test = absurd (never test)
+
+    by_end : (early : Bool) → is_earlier (span_at (session_of timed s) (Some n)).ended since ≡ early → Precedes order source other
+    by_end false test = read_precedes timed order s n other b h there (last_is_since since b.span (session_of timed s) n e test)
+    by_end true test = by_times (from_earlier (span_at (session_of timed s) (Some n)).ended since test)
+      where
+        by_times : (ended time : ℕ) × ((span_at (session_of timed s) (Some n)).ended ≡ Some ended) × (since ≡ Some time) × (ended < time) → Precedes order source other
+        by_times (ended, time, is, latest, below) = through ended time is latest below
+
+keeps_below : (timed : TimedHistory) (order : List TxnId) (bound : ℕ) → ExplainsWhole (strict_history timed) order → KeepsTimeBelow timed order bound
+keeps_below timed order zero h one other a b ended began at is there was below low = absurd (omega (arith, low))
+keeps_below timed order (suc bound) h one other a b ended began at is there was below low = by_last (covered_before b.span 0 (session_of timed one.session) one.number a at (to_test a.span b.span ended began is was below)) (keeps_below timed order bound h)
   where
     keeps : KeepsSessions (untimed timed) order
     keeps = keeps_untimed timed order h
 
-    by_last : (n : ℕ) × (last_before b.span 0 (session_of timed one.session) ≡ Some n) × (0 + one.number ≤ n) → Precedes order one other
-    by_last (n, e, low) = by_number (cases_lt one.number n) (last_precedes timed order one.session n other b h there e) (last_at timed b.span one.session n e)
+    by_last : (n : ℕ) × (last_before b.span 0 (session_of timed one.session) ≡ Some n) × (0 + one.number ≤ n) → KeepsTimeBelow timed order bound → Precedes order one other
+    by_last (n, e, high) kept = by_number (cases_lt one.number n) (last_precedes timed order bound one.session n other b began h kept there was low e) (last_at timed b.span one.session n e)
       where
         source : TxnId
         source = record { session = one.session; number = n }
 
         by_number : (one.number < n) ⊎ (n ≤ one.number) → Precedes order source other → (u : TimedTxn) × (timed_at timed source ≡ Some u) × (ended_before u.span b.span ≡ true) → Precedes order one other
         by_number (inl earlier) before (u, found, test) = before_after (untimed timed) order one source other keeps (in_turn (untimed timed) order one source keeps refl earlier (within_session timed source u found)) before
-        by_number (inr last) before _ = let same : n ≡ one.number = omega (arith, last, low) in subst (λ k. Precedes order (record { session = one.session; number = k }) other) same before
+        by_number (inr last) before _ = let same : n ≡ one.number = omega (arith, last, high) in subst (λ k. Precedes order (record { session = one.session; number = k }) other) same before
+
+keeps_time : (timed : TimedHistory) (order : List TxnId) → ExplainsWhole (strict_history timed) order → (one other : TxnId) → EndedBefore timed one other → Precedes order one other
+keeps_time timed order h one other (a, b, ended, began, at, is, there, was, below) = keeps_below timed order (began + 1) h one other a b ended began at is there was below (omega arith)
 
 pub strict_order : (timed : TimedHistory) (order : List TxnId) → HasRoomForTimes timed → ExplainsWhole (strict_history timed) order → IsStrictOrder timed order
 strict_order timed order room h = record {
@@ -139,7 +212,7 @@ strict_order timed order room h = record {
         let same : t.txn ≡ txn = cc in
         subst (λ (x : Txn). All (λ read. MeetsWhole (untimed timed) front read.0 read.1) (x.reads)) same
         (λ k d within. meets_untimed timed front (slice_index_or t.txn.reads k d).0 (slice_index_or t.txn.reads k d).1 ((low_keys timed id t room at).reads k d within)
-        (all_left (λ read. MeetsWhole (strict_history timed) front read.0 read.1) t.txn.reads (end_reads t.span 0 timed) (all_met timed order front back id t h split at) k d within))
+        (all_left (λ read. MeetsWhole (strict_history timed) front read.0 read.1) t.txn.reads (end_reads t.span timed) (all_met timed order front back id t h split at) k d within))
 
 -- ---- to the rewritten history
 
@@ -168,7 +241,7 @@ explains_rewritten timed order room h = record {
     by_found front back id split txn (Some t) at is =
         let same : strict_txn timed id t ≡ txn = cc in
         subst (λ (x : Txn). All (λ read. MeetsWhole (strict_history timed) front read.0 read.1) (x.reads)) same
-        (All-append (λ read. MeetsWhole (strict_history timed) front read.0 read.1) t.txn.reads (end_reads t.span 0 timed) own (ends_have (λ read. MeetsWhole (strict_history timed) front read.0 read.1) t.span 0 timed ends))
+        (All-append (λ read. MeetsWhole (strict_history timed) front read.0 read.1) t.txn.reads (end_reads t.span timed) own (ends_have (λ read. MeetsWhole (strict_history timed) front read.0 read.1) (latest_begin t.span timed) t.span 0 timed ends))
       where
         own : All (λ read. MeetsWhole (strict_history timed) front read.0 read.1) t.txn.reads
         own = λ k d within. meets_strict timed front (slice_index_or t.txn.reads k d).0 (slice_index_or t.txn.reads k d).1 ((low_keys timed id t room at).reads k d within) (h.explains.reads front back id split t.txn (untimed_at timed id ∙ ap (option_map (λ (t : TimedTxn). t.txn)) at) k d within)

@@ -10,7 +10,7 @@ use Rattle.order_check.specs.declared.remainder.Kind.TheVariants.{Serial, Pendin
 use Rattle.order_check.specs.Whole.{HasOrderWhole, HasPendingWhole}
 use Rattle.strict_histories.specs.declared.timed.TimedTxn.{TimedTxn}
 use Rattle.strict_histories.specs.Laws.{RewritingKeepsPending, RewritingKeepsVerdict}
-use Rattle.strict_histories.specs.Rewriting.{HasRoomForTimes, end_reads, ended_before, strict_history, strict_txn}
+use Rattle.strict_histories.specs.Rewriting.{HasRoomForTimes, end_reads, ended_before, latest_begin, strict_history, strict_txn}
 use Rattle.strict_histories.specs.Strict.{HasStrictOrder, TimedHistory, timed_at, untimed}
 use Rattle.strict_histories.proofs.EndReads.{ends_have, read_of}
 use Rattle.strict_histories.proofs.Lookups.{strict_at, untimed_at}
@@ -21,8 +21,8 @@ abbrev pub IsHere : TimedHistory → ℕ × Source → Type 0
 IsHere timed read = (writer : TxnId) → read.1 ≡ By writer → Received (strict_history timed) writer
 
 -- each end that is read is one of the history
-ends_here : (timed : TimedHistory) (t : TimedTxn) → All (IsHere timed) (end_reads t.span 0 timed)
-ends_here timed t = ends_have (IsHere timed) t.span 0 timed (λ s n e. by_source s n (last_at timed t.span s n e))
+ends_here : (timed : TimedHistory) (t : TimedTxn) → All (IsHere timed) (end_reads t.span timed)
+ends_here timed t = ends_have (IsHere timed) (latest_begin t.span timed) t.span 0 timed (λ s n e. by_source s n (last_at timed t.span s n e))
   where
     by_source : (s n : ℕ) → (u : TimedTxn) × (timed_at timed (record { session = s; number = n }) ≡ Some u) × (ended_before u.span t.span ≡ true) → IsHere timed (read_of (0 + s) n)
     by_source s n (u, there, test) = λ writer is.
@@ -35,18 +35,18 @@ more_reads timed reader writer key reads = subst (λ o. IsSomeAnd o (λ txn. Con
   where
     by_found : (found : Option TimedTxn) → IsSomeAnd (option_map (λ (t : TimedTxn). t.txn) found) (λ txn. Contains txn.reads (key, By writer)) → IsSomeAnd (option_map (strict_txn timed reader) found) (λ txn. Contains txn.reads (key, By writer))
     by_found None has = absurd has
-    by_found (Some t) has = Contains-append_left t.txn.reads (end_reads t.span 0 timed) (key, By writer) has
+    by_found (Some t) has = Contains-append_left t.txn.reads (end_reads t.span timed) (key, By writer) has
 
 fewer_reads : (timed : TimedHistory) (reader writer : TxnId) (key : ℕ) → (¬ Received (strict_history timed) writer) → Reads (txn_at (strict_history timed)) reader key (By writer) → Reads (txn_at (untimed timed)) reader key (By writer)
 fewer_reads timed reader writer key missing reads = subst (λ o. IsSomeAnd o (λ txn. Contains txn.reads (key, By writer))) (sym (untimed_at timed reader)) (by_found (timed_at timed reader) (subst (λ o. IsSomeAnd o (λ txn. Contains txn.reads (key, By writer))) (strict_at timed reader) reads))
   where
     by_found : (found : Option TimedTxn) → IsSomeAnd (option_map (strict_txn timed reader) found) (λ txn. Contains txn.reads (key, By writer)) → IsSomeAnd (option_map (λ (t : TimedTxn). t.txn) found) (λ txn. Contains txn.reads (key, By writer))
     by_found None has = absurd has
-    by_found (Some t) has = by_part (Contains-append_cases t.txn.reads (end_reads t.span 0 timed) (key, By writer) has)
+    by_found (Some t) has = by_part (Contains-append_cases t.txn.reads (end_reads t.span timed) (key, By writer) has)
       where
-        by_part : Contains t.txn.reads (key, By writer) ⊎ Contains (end_reads t.span 0 timed) (key, By writer) → Contains t.txn.reads (key, By writer)
+        by_part : Contains t.txn.reads (key, By writer) ⊎ Contains (end_reads t.span timed) (key, By writer) → Contains t.txn.reads (key, By writer)
         by_part (inl own) = own
-        by_part (inr end) = absurd (missing (All-contains (IsHere timed) (end_reads t.span 0 timed) (key, By writer) (ends_here timed t) end writer refl))
+        by_part (inr end) = absurd (missing (All-contains (IsHere timed) (end_reads t.span timed) (key, By writer) (ends_here timed t) end writer refl))
 
 pub pending_there : (timed : TimedHistory) → HasPendingWhole (untimed timed) → HasPendingWhole (strict_history timed)
 pending_there timed (reader, writer, key, reads, missing) = (reader, writer, key, more_reads timed reader writer key reads, λ received. missing (untimed_received timed writer received))

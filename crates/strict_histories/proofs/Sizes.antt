@@ -5,7 +5,7 @@ use Rattle.txn.specs.History.{session_of}
 use Rattle.strict_histories.specs.declared.timed.Span.{Span}
 use Rattle.strict_histories.specs.declared.timed.TimedTxn.{TimedTxn}
 use Rattle.strict_histories.specs.Laws.{RewritingKeepsCounts, RewritingAddsFew}
-use Rattle.strict_histories.specs.Rewriting.{end_read, end_reads, end_writes, last_before, strict_sessions, strict_txns}
+use Rattle.strict_histories.specs.Rewriting.{end_read, end_reads, end_writes, ends_since, last_since, latest_begin, strict_sessions, strict_txns}
 use Rattle.strict_histories.specs.Strict.{TimedHistory}
 use Rattle.strict_histories.proofs.Lookups.{strict_session}
 
@@ -20,11 +20,11 @@ as_many timed s number (t ∷ txns) = ap suc (as_many timed s (number + 1) txns)
 pub counts_kept : RewritingKeepsCounts
 counts_kept timed = (as_many_sessions timed 0 timed, λ s. ap length (strict_session timed s) ∙ as_many timed s 0 (session_of timed s))
 
-few_ends : (span : Span) (s : ℕ) (sessions : TimedHistory) → length (end_reads span s sessions) ≤ length sessions
-few_ends span s [] = omega arith
-few_ends span s (txns ∷ sessions) = by_last (last_before span 0 txns) (few_ends span (s + 1) sessions)
+few_ends : (since : Option ℕ) (span : Span) (s : ℕ) (sessions : TimedHistory) → length (ends_since since span s sessions) ≤ length sessions
+few_ends since span s [] = omega arith
+few_ends since span s (txns ∷ sessions) = by_last (last_since since span txns) (few_ends since span (s + 1) sessions)
   where
-    by_last : (last : Option ℕ) → length (end_reads span (s + 1) sessions) ≤ length sessions → length (end_read s last ++ end_reads span (s + 1) sessions) ≤ suc (length sessions)
+    by_last : (last : Option ℕ) → length (ends_since since span (s + 1) sessions) ≤ length sessions → length (end_read s last ++ ends_since since span (s + 1) sessions) ≤ suc (length sessions)
     by_last None rest = omega (arith, rest)
     by_last (Some number) rest = omega (arith, rest)
 
@@ -34,6 +34,6 @@ one_end id (Some ended) = omega arith
 
 pub few_added : RewritingAddsFew
 few_added timed id t = (
-  (let e = length-append t.txn.reads (end_reads t.span 0 timed) in let few = few_ends t.span 0 timed in omega (arith, e, few)),
+  (let e = length-append t.txn.reads (end_reads t.span timed) in let few = few_ends (latest_begin t.span timed) t.span 0 timed in omega (arith, e, few)),
   (let e = length-append t.txn.writes (end_writes id t.span.ended) in let few = one_end id t.span.ended in omega (arith, e, few)),
 )

@@ -15,7 +15,7 @@ KeepsSessions history order = (s : ℕ) → filter (in_session s) order ≡ ids_
 in_own : (id : TxnId) → in_session id.session id ≡ true
 in_own id = eq-eqb id.session id.session refl
 
-never_twice : (history : History) (order : List TxnId) (id : TxnId) → KeepsSessions history order → Precedes order id id → ⊥
+pub never_twice : (history : History) (order : List TxnId) (id : TxnId) → KeepsSessions history order → Precedes order id id → ⊥
 never_twice history order id keeps twice = apart (subst (λ ids. Precedes ids id id) (keeps id.session) (precedes_filter (in_session id.session) order id id (in_own id) (in_own id) twice))
   where
     apart : Precedes (ids_from id.session 0 (session_of history id.session)) id id → ⊥

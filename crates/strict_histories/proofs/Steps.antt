@@ -9,10 +9,10 @@ use Rattle.txn.specs.declared.transactions.Source.{Source}
 use Rattle.txn.specs.declared.transactions.Txn.{Txn}
 use Rattle.strict_histories.specs.declared.timed.Span.{Span}
 use Rattle.strict_histories.specs.declared.timed.TimedTxn.{TimedTxn}
-use Rattle.strict_histories.specs.Rewriting.{end_read, end_reads, ended_before, last_before, later_or, strict_sessions, strict_txn, strict_txns}
+use Rattle.strict_histories.specs.Rewriting.{end_read, ended_before, ends_since, last_before, last_since, later_or, strict_sessions, strict_txn, strict_txns}
 use Rattle.strict_histories.specs.Strict.{TimedHistory}
 use Rattle.strict_histories.specs.Ends.{or_last}
-use Rattle.strict_histories.proofs.EndReads.{found_before}
+use Rattle.strict_histories.proofs.EndReads.{found_before, since_is_last}
 
 pub later_or_last : (b passes : Bool) (n number : ℕ) (found : Option ℕ) → later_or (or_last b n found) passes number ≡ or_last b n (later_or found passes number)
 later_or_last true passes n number found = refl
@@ -37,24 +37,24 @@ last_next span txns k t within is =
     ∙ last_pushed span 0 (take k txns) t
     ∙ ap (λ n. or_last (ended_before t.span span) n (last_before span 0 (take k txns))) long
 
-pub ends_pushed : (span : Span) (s : ℕ) (sessions : TimedHistory) (txns : List TimedTxn) → end_reads span s (sessions ++ txns ∷ []) ≡ end_reads span s sessions ++ end_read (s + length sessions) (last_before span 0 txns)
-ends_pushed span s [] txns = none_behind (end_read s (last_before span 0 txns)) ∙ ap (λ k. end_read k (last_before span 0 txns)) (sym (add-zero s))
+pub ends_pushed : (since : Option ℕ) (span : Span) (s : ℕ) (sessions : TimedHistory) (txns : List TimedTxn) → ends_since since span s (sessions ++ txns ∷ []) ≡ ends_since since span s sessions ++ end_read (s + length sessions) (last_since since span txns)
+ends_pushed since span s [] txns = none_behind (end_read s (last_since since span txns)) ∙ ap (λ k. end_read k (last_since since span txns)) (sym (add-zero s))
   where
     none_behind : (xs : List (ℕ × Source)) → xs ++ [] ≡ xs
     none_behind [] = refl
     none_behind (x ∷ xs) = ap (λ ys. x ∷ ys) (none_behind xs)
-ends_pushed span s (one ∷ sessions) txns =
+ends_pushed since span s (one ∷ sessions) txns =
     let moved : s + 1 + length sessions ≡ s + suc (length sessions) = omega arith in
-    ap (λ reads. end_read s (last_before span 0 one) ++ reads) (ends_pushed span (s + 1) sessions txns ∙ ap (λ k. end_reads span (s + 1) sessions ++ end_read k (last_before span 0 txns)) moved)
-    ∙ sym (append_assoc (end_read s (last_before span 0 one)) (end_reads span (s + 1) sessions) (end_read (s + suc (length sessions)) (last_before span 0 txns)))
+    ap (λ reads. end_read s (last_since since span one) ++ reads) (ends_pushed since span (s + 1) sessions txns ∙ ap (λ k. ends_since since span (s + 1) sessions ++ end_read k (last_since since span txns)) moved)
+    ∙ sym (append_assoc (end_read s (last_since since span one)) (ends_since since span (s + 1) sessions) (end_read (s + suc (length sessions)) (last_since since span txns)))
 
 -- the reads, once the next session was looked at
-pub ends_next : (span : Span) (timed : TimedHistory) (k : ℕ) (txns : List TimedTxn) → k < length timed → txns ≡ get_or timed k txns → end_reads span 0 (take (k + 1) timed) ≡ end_reads span 0 (take k timed) ++ end_read k (last_before span 0 txns)
-ends_next span timed k txns within is =
+pub ends_next : (since : Option ℕ) (span : Span) (timed : TimedHistory) (k : ℕ) (txns : List TimedTxn) → k < length timed → txns ≡ get_or timed k txns → ends_since since span 0 (take (k + 1) timed) ≡ ends_since since span 0 (take k timed) ++ end_read k (last_since since span txns)
+ends_next since span timed k txns within is =
     let long : 0 + length (take k timed) ≡ k = (let l = length-take-le k timed (omega (arith, within)) in omega (arith, l)) in
-    ap (end_reads span 0) (take_more timed k txns within ∙ ap (λ x. take k timed ++ x ∷ []) (sym is))
-    ∙ ends_pushed span 0 (take k timed) txns
-    ∙ ap (λ n. end_reads span 0 (take k timed) ++ end_read n (last_before span 0 txns)) long
+    ap (ends_since since span 0) (take_more timed k txns within ∙ ap (λ x. take k timed ++ x ∷ []) (sym is))
+    ∙ ends_pushed since span 0 (take k timed) txns
+    ∙ ap (λ n. ends_since since span 0 (take k timed) ++ end_read n (last_since since span txns)) long
 
 txns_pushed : (timed : TimedHistory) (s m : ℕ) (txns : List TimedTxn) (t : TimedTxn) → strict_txns timed s m (txns ++ t ∷ []) ≡ strict_txns timed s m txns ++ strict_txn timed (record { session = s; number = m + length txns }) t ∷ []
 txns_pushed timed s m [] t = ap (λ (k : ℕ). strict_txn timed (record { session = s; number = k }) t ∷ []) (sym (add-zero m))
@@ -87,17 +87,17 @@ history_next timed sessions k txns within is =
 -- ---- what the loops keep
 
 -- the reads so far, and those of the next session
-pub ends_grown : (span : Span) (timed : TimedHistory) (k : ℕ) (session txns : List TimedTxn) (last : Option ℕ) (before made after : List (ℕ × Source)) → k < length timed → session ≡ get_or timed k session → txns ≡ session → last ≡ last_before span 0 txns → made ≡ before ++ end_reads span 0 (take k timed) → after ≡ made ++ end_read k last → after ≡ before ++ end_reads span 0 (take (k + 1) timed)
-ends_grown span timed k session txns last before made after within is same found so_far pushed =
+pub ends_grown : (since : Option ℕ) (span : Span) (timed : TimedHistory) (k : ℕ) (session txns : List TimedTxn) (last : Option ℕ) (before made after : List (ℕ × Source)) → k < length timed → session ≡ get_or timed k session → txns ≡ session → last ≡ last_since since span txns → made ≡ before ++ ends_since since span 0 (take k timed) → after ≡ made ++ end_read k last → after ≡ before ++ ends_since since span 0 (take (k + 1) timed)
+ends_grown since span timed k session txns last before made after within is same found so_far pushed =
     pushed
     ∙ ap (λ reads. reads ++ end_read k last) so_far
-    ∙ ap (λ o. (before ++ end_reads span 0 (take k timed)) ++ end_read k o) (found ∙ ap (last_before span 0) same)
-    ∙ append_assoc before (end_reads span 0 (take k timed)) (end_read k (last_before span 0 session))
-    ∙ ap (λ reads. before ++ reads) (sym (ends_next span timed k session within is))
+    ∙ ap (λ o. (before ++ ends_since since span 0 (take k timed)) ++ end_read k o) (found ∙ ap (last_since since span) same)
+    ∙ append_assoc before (ends_since since span 0 (take k timed)) (end_read k (last_since since span session))
+    ∙ ap (λ reads. before ++ reads) (sym (ends_next since span timed k session within is))
 
 -- a number that is found is one of its session
-pub last_is_low : (span : Span) (timed : TimedHistory) (k : ℕ) (session txns : List TimedTxn) (last : Option ℕ) → All (λ txns. length txns ≤ 2 ^ 48) timed → k < length timed → session ≡ get_or timed k session → txns ≡ session → last ≡ last_before span 0 txns → IfSome last (λ number. number < 2 ^ 48)
-last_is_low span timed k session txns last short within is same found = if_some_from last (λ number. number < 2 ^ 48) (λ number there. by_place number (found_before span 0 txns number (sym found ∙ there)))
+pub last_is_low : (since : Option ℕ) (span : Span) (timed : TimedHistory) (k : ℕ) (session txns : List TimedTxn) (last : Option ℕ) → All (λ txns. length txns ≤ 2 ^ 48) timed → k < length timed → session ≡ get_or timed k session → txns ≡ session → last ≡ last_since since span txns → IfSome last (λ number. number < 2 ^ 48)
+last_is_low since span timed k session txns last short within is same found = if_some_from last (λ number. number < 2 ^ 48) (λ number there. by_place number (found_before span 0 txns number (since_is_last since span txns number (sym found ∙ there))))
   where
     long : length session ≤ 2 ^ 48
     long = subst (λ txns. length txns ≤ 2 ^ 48) (sym is) (short k session within)

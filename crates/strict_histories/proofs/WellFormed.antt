@@ -1,5 +1,5 @@
 -- What a well-formed transaction with possible times is rewritten into is well formed.
-use Rattle.std.proofs.Common.{◌≡◌, ◌≢◌, ℕ, zero, suc, ◌+◌, ◌*◌, ◌<◌, ◌≤◌, ◌^◌, Bool, true, false, ◌||◌, ◌&&◌, List, [], ◌∷◌, ◌++◌, length, Some, None, Option, refl, sym, ap, subst, ◌∙◌, inl, inr, arith, nat_lt, nat_eq}
+use Rattle.std.proofs.Common.{◌≡◌, ◌≢◌, ℕ, zero, suc, ◌+◌, ◌*◌, ◌<◌, ◌≤◌, ◌^◌, Bool, true, false, not, ◌||◌, ◌&&◌, List, [], ◌∷◌, ◌++◌, length, Some, None, Option, refl, sym, ap, subst, ◌∙◌, inl, inr, arith, nat_lt, nat_eq}
 use Rattle.std.specs.Prelude.{All}
 use Rattle.std.specs.List.{slice_get, slice_index_or}
 use Rattle.std.proofs.lemmas.Bool.{false≢true, lt-ltb}
@@ -11,9 +11,9 @@ use Rattle.txn.specs.History.{session_of}
 use Rattle.strict_histories.specs.declared.timed.Span.{Span}
 use Rattle.strict_histories.specs.declared.timed.TimedTxn.{TimedTxn}
 use Rattle.strict_histories.specs.Laws.{RewritingIsWellFormed}
-use Rattle.strict_histories.specs.Rewriting.{end_key, end_read, end_reads, end_writes, ended_before, is_earlier, last_before, later_or, strict_txn}
+use Rattle.strict_histories.specs.Rewriting.{end_key, end_read, end_reads, end_writes, ended_before, ends_since, given_if, is_earlier, last_before, last_since, later_or, latest_begin, span_at, strict_txn}
 use Rattle.strict_histories.specs.Strict.{TimedHistory, timed_at}
-use Rattle.strict_histories.proofs.EndReads.{ends_have, read_of}
+use Rattle.strict_histories.proofs.EndReads.{ends_have, read_of, since_is_last}
 use Rattle.strict_histories.proofs.Lookups.{low_keys, low_number}
 use Rattle.strict_histories.proofs.Orders.{last_at}
 
@@ -45,8 +45,8 @@ rise_both below (x ∷ z ∷ xs) ys one other apart = rises_more below x ((z ∷
 from_key : (k n s : ℕ) → 2 ^ 62 + s * 2 ^ 48 ≤ end_key (record { session = s + k; number = n })
 from_key k n s = let e : end_key (record { session = s + k; number = n }) ≡ 2 ^ 62 + (s + k) * 2 ^ 48 + n = refl in omega (arith, e)
 
-keys_from : (span : Span) (s : ℕ) (sessions : TimedHistory) → All (λ read. 2 ^ 62 + s * 2 ^ 48 ≤ read.0) (end_reads span s sessions)
-keys_from span s sessions = ends_have (λ read. 2 ^ 62 + s * 2 ^ 48 ≤ read.0) span s sessions (λ k n e. from_key k n s)
+keys_from : (since : Option ℕ) (span : Span) (s : ℕ) (sessions : TimedHistory) → All (λ read. 2 ^ 62 + s * 2 ^ 48 ≤ read.0) (ends_since since span s sessions)
+keys_from since span s sessions = ends_have (λ read. 2 ^ 62 + s * 2 ^ 48 ≤ read.0) since span s sessions (λ k n e. from_key k n s)
 
 read_rises : (a b : ℕ × Source) → a.0 < b.0 → read_below a b ≡ true
 read_rises a b less = ap (λ t. t || (nat_eq a.0 b.0 && source_below a.1 b.1)) (lt-ltb a.0 b.0 less)
@@ -55,23 +55,23 @@ read_rises a b less = ap (λ t. t || (nat_eq a.0 b.0 && source_below a.1 b.1)) (
 abbrev pub FindsLow : Span → TimedHistory → Type 0
 FindsLow span sessions = (k n : ℕ) → last_before span 0 (session_of sessions k) ≡ Some n → n < 2 ^ 48
 
-ends_rise : (span : Span) (s : ℕ) (sessions : TimedHistory) → FindsLow span sessions → Rises read_below (end_reads span s sessions)
-ends_rise span s [] low = λ k d within. absurd (omega (arith, within))
-ends_rise span s (txns ∷ sessions) low = by_last (last_before span 0 txns) refl (ends_rise span (s + 1) sessions (λ k. low (suc k)))
+ends_rise : (since : Option ℕ) (span : Span) (s : ℕ) (sessions : TimedHistory) → FindsLow span sessions → Rises read_below (ends_since since span s sessions)
+ends_rise since span s [] low = λ k d within. absurd (omega (arith, within))
+ends_rise since span s (txns ∷ sessions) low = by_last (last_since since span txns) refl (ends_rise since span (s + 1) sessions (λ k. low (suc k)))
   where
-    by_last : (last : Option ℕ) → last_before span 0 txns ≡ last → Rises read_below (end_reads span (s + 1) sessions) → Rises read_below (end_read s last ++ end_reads span (s + 1) sessions)
+    by_last : (last : Option ℕ) → last_since since span txns ≡ last → Rises read_below (ends_since since span (s + 1) sessions) → Rises read_below (end_read s last ++ ends_since since span (s + 1) sessions)
     by_last None e rest = rest
-    by_last (Some n) e rest = rises_more read_below (read_of s n) (end_reads span (s + 1) sessions) (λ d within. read_rises (read_of s n) (slice_index_or (end_reads span (s + 1) sessions) 0 d) (first d within)) rest
+    by_last (Some n) e rest = rises_more read_below (read_of s n) (ends_since since span (s + 1) sessions) (λ d within. read_rises (read_of s n) (slice_index_or (ends_since since span (s + 1) sessions) 0 d) (first d within)) rest
       where
-        first : (d : ℕ × Source) → 0 < length (end_reads span (s + 1) sessions) → end_key (record { session = s; number = n }) < (slice_index_or (end_reads span (s + 1) sessions) 0 d).0
+        first : (d : ℕ × Source) → 0 < length (ends_since since span (s + 1) sessions) → end_key (record { session = s; number = n }) < (slice_index_or (ends_since since span (s + 1) sessions) 0 d).0
         first d within =
             let own : end_key (record { session = s; number = n }) ≡ 2 ^ 62 + s * 2 ^ 48 + n = refl in
-            let number = low 0 n e in
-            let next = keys_from span (s + 1) sessions 0 d within in
+            let number = low 0 n (since_is_last since span txns n e) in
+            let next = keys_from since span (s + 1) sessions 0 d within in
             omega (arith, own, number, next)
 
-all_found : (P : ℕ × Source → Type 0) (timed : TimedHistory) (span : Span) → ((s n : ℕ) (u : TimedTxn) → timed_at timed (record { session = s; number = n }) ≡ Some u → ended_before u.span span ≡ true → P (read_of s n)) → All P (end_reads span 0 timed)
-all_found P timed span each = ends_have P span 0 timed (λ s n e. by_source s n (last_at timed span s n e))
+all_found : (P : ℕ × Source → Type 0) (timed : TimedHistory) (span : Span) → ((s n : ℕ) (u : TimedTxn) → timed_at timed (record { session = s; number = n }) ≡ Some u → ended_before u.span span ≡ true → P (read_of s n)) → All P (end_reads span timed)
+all_found P timed span each = ends_have P (latest_begin span timed) span 0 timed (λ s n e. by_source s n (last_at timed span s n e))
   where
     by_source : (s n : ℕ) → (u : TimedTxn) × (timed_at timed (record { session = s; number = n }) ≡ Some u) × (ended_before u.span span ≡ true) → P (read_of (0 + s) n)
     by_source s n (u, at, test) = let zero_first : s ≡ 0 + s = omega arith in subst (λ j. P (read_of j n)) zero_first (each s n u at test)
@@ -90,9 +90,16 @@ none_found span none m (t ∷ txns) = ap (λ o. later_or o (ended_before t.span 
     by_end None = refl
     by_end (Some ended) = refl
 
-no_ends : (span : Span) → span.began ≡ None → (s : ℕ) (sessions : TimedHistory) → end_reads span s sessions ≡ []
-no_ends span none s [] = refl
-no_ends span none s (txns ∷ sessions) = ap (λ o. end_read s o ++ end_reads span (s + 1) sessions) (none_found span none 0 txns) ∙ no_ends span none (s + 1) sessions
+nothing_since : (since : Option ℕ) (span : Span) → span.began ≡ None → (txns : List TimedTxn) → last_since since span txns ≡ None
+nothing_since since span none txns = ap (λ o. given_if (not (is_earlier (span_at txns o).ended since)) o) (none_found span none 0 txns) ∙ by_test (not (is_earlier (span_at txns None).ended since))
+  where
+    by_test : (b : Bool) → given_if b None ≡ None
+    by_test true = refl
+    by_test false = refl
+
+no_ends : (since : Option ℕ) (span : Span) → span.began ≡ None → (s : ℕ) (sessions : TimedHistory) → ends_since since span s sessions ≡ []
+no_ends since span none s [] = refl
+no_ends since span none s (txns ∷ sessions) = ap (λ o. end_read s o ++ ends_since since span (s + 1) sessions) (nothing_since since span none txns) ∙ no_ends since span none (s + 1) sessions
 
 append_none : {X : Type 0} (xs : List X) → xs ++ [] ≡ xs
 append_none [] = refl
@@ -109,9 +116,9 @@ one_rises id (Some ended) k d within = absurd (omega (arith, within))
 pub well_formed : RewritingIsWellFormed
 well_formed sessions timed id t room few at formed timely fence = record {
   lists = record {
-    reads_rise = rise_both read_below t.txn.reads (end_reads t.span 0 timed) formed.lists.reads_rise (ends_rise t.span 0 timed low) reads_apart;
+    reads_rise = rise_both read_below t.txn.reads (end_reads t.span timed) formed.lists.reads_rise (ends_rise (latest_begin t.span timed) t.span 0 timed low) reads_apart;
     writes_rise = rise_both nat_lt t.txn.writes (end_writes id t.span.ended) formed.lists.writes_rise (one_rises id t.span.ended) writes_apart;
-    sources = All-append (λ read. IsSourceFor sessions id read.1) t.txn.reads (end_reads t.span 0 timed) formed.lists.sources (all_found (λ read. IsSourceFor sessions id read.1) timed t.span source);
+    sources = All-append (λ read. IsSourceFor sessions id read.1) t.txn.reads (end_reads t.span timed) formed.lists.sources (all_found (λ read. IsSourceFor sessions id read.1) timed t.span source);
   };
   epoch = by_epoch formed.epoch;
 }
@@ -122,14 +129,14 @@ well_formed sessions timed id t room few at formed timely fence = record {
         by_found : (u : TimedTxn) × (timed_at timed (record { session = s; number = n }) ≡ Some u) × (ended_before u.span t.span ≡ true) → n < 2 ^ 48
         by_found (u, there, test) = low_number timed (record { session = s; number = n }) u room there
 
-    high : All (λ read. 2 ^ 62 ≤ read.0) (end_reads t.span 0 timed)
-    high = All-weaker (λ read. 2 ^ 62 + 0 * 2 ^ 48 ≤ read.0) (λ read. 2 ^ 62 ≤ read.0) (λ read h. omega (arith, h)) (end_reads t.span 0 timed) (keys_from t.span 0 timed)
+    high : All (λ read. 2 ^ 62 ≤ read.0) (end_reads t.span timed)
+    high = All-weaker (λ read. 2 ^ 62 + 0 * 2 ^ 48 ≤ read.0) (λ read. 2 ^ 62 ≤ read.0) (λ read h. omega (arith, h)) (end_reads t.span timed) (keys_from (latest_begin t.span timed) t.span 0 timed)
 
-    reads_apart : AreBelow read_below t.txn.reads (end_reads t.span 0 timed)
+    reads_apart : AreBelow read_below t.txn.reads (end_reads t.span timed)
     reads_apart = λ k d within. λ j e inside.
         let below = (low_keys timed id t room at).reads k d within in
         let above = high j e inside in
-        read_rises (slice_index_or t.txn.reads k d) (slice_index_or (end_reads t.span 0 timed) j e) (omega (arith, below, above))
+        read_rises (slice_index_or t.txn.reads k d) (slice_index_or (end_reads t.span timed) j e) (omega (arith, below, above))
 
     writes_apart : AreBelow nat_lt t.txn.writes (end_writes id t.span.ended)
     writes_apart = λ k d within. λ j e inside.
@@ -147,8 +154,8 @@ well_formed sessions timed id t room few at formed timely fence = record {
     by_epoch : KeepsEpoch t.txn → KeepsEpoch (strict_txn timed id t)
     by_epoch (inl is) =
         let times = fence is in
-        inl (is.0, ap (λ reads. t.txn.reads ++ reads) (no_ends t.span times.0 0 timed) ∙ append_none t.txn.reads ∙ is.1, ap (λ o. t.txn.writes ++ end_writes id o) times.1 ∙ append_none t.txn.writes ∙ is.2)
+        inl (is.0, ap (λ reads. t.txn.reads ++ reads) (no_ends (latest_begin t.span timed) t.span times.0 0 timed) ∙ append_none t.txn.reads ∙ is.1, ap (λ o. t.txn.writes ++ end_writes id o) times.1 ∙ append_none t.txn.writes ∙ is.2)
     by_epoch (inr spares) = inr (record {
-      reads = All-append (λ read. read.0 ≢ 0) t.txn.reads (end_reads t.span 0 timed) spares.reads (All-weaker (λ read. 2 ^ 62 ≤ read.0) (λ read. read.0 ≢ 0) (λ read above is. omega (arith, above, is)) (end_reads t.span 0 timed) high);
+      reads = All-append (λ read. read.0 ≢ 0) t.txn.reads (end_reads t.span timed) spares.reads (All-weaker (λ read. 2 ^ 62 ≤ read.0) (λ read. read.0 ≢ 0) (λ read above is. omega (arith, above, is)) (end_reads t.span timed) high);
       writes = All-append (λ key. key ≢ 0) t.txn.writes (end_writes id t.span.ended) spares.writes (All-weaker (λ key. 2 ^ 62 ≤ key) (λ key. key ≢ 0) (λ key above is. omega (arith, above, is)) (end_writes id t.span.ended) (ends_of id t.span.ended));
     })

@@ -1,6 +1,6 @@
 -- Histories with times, rewritten into histories without: a transaction that ended writes a key of its own, and those that began
--- later read it from there.
-use Rattle.std.specs.Prelude.{ℕ, ◌+◌, ◌*◌, ◌<◌, ◌≤◌, ◌^◌, Bool, true, false, nat_lt, List, [], ◌∷◌, ◌++◌, length, Option, Some, None, All}
+-- later read it from there, or come later through another one.
+use Rattle.std.specs.Prelude.{ℕ, ◌+◌, ◌*◌, ◌<◌, ◌≤◌, ◌^◌, Bool, true, false, not, nat_lt, max, List, [], ◌∷◌, ◌++◌, length, slice_get, Option, Some, None, All}
 use Rattle.txn.specs.declared.transactions.TxnId.{TxnId}
 use Rattle.txn.specs.declared.transactions.Source.{Source}
 use Rattle.txn.specs.declared.transactions.Source.TheVariants.{By}
@@ -45,14 +45,53 @@ abbrev pub end_read : ℕ → Option ℕ → List (ℕ × Source)
 end_read s None = []
 end_read s (Some number) = (end_key (record { session = s; number = number }), By (record { session = s; number = number })) ∷ []
 
--- of each of these sessions, the first with this number, the key of the last that ended before one with this span began
-abbrev pub end_reads : Span → ℕ → TimedHistory → List (ℕ × Source)
-end_reads span s [] = []
-end_reads span s (txns ∷ sessions) = end_read s (last_before span 0 txns) ++ end_reads span (s + 1) sessions
+-- when a transaction began and ended; nothing is known of none
+abbrev pub span_of : Option TimedTxn → Span
+span_of None = record { began = None; ended = None }
+span_of (Some t) = t.span
+
+-- when the transaction of a session with this number did
+abbrev pub span_at : List TimedTxn → Option ℕ → Span
+span_at txns None = span_of None
+span_at txns (Some number) = span_of (slice_get txns number)
+
+-- the later of two times, if both are known; else the one that is
+abbrev pub later_time : Option ℕ → Option ℕ → Option ℕ
+later_time None other = other
+later_time (Some one) None = Some one
+later_time (Some one) (Some other) = Some (max one other)
+
+-- what is given, if this is so
+abbrev pub given_if : Bool → Option ℕ → Option ℕ
+given_if true given = given
+given_if false given = None
+
+-- when the last of these transactions of a session that ended before one with this span began had begun itself, if that was earlier
+abbrev pub begin_before : Span → List TimedTxn → Option ℕ
+begin_before span txns = let began = (span_at txns (last_before span 0 txns)).began in given_if (is_earlier began span.began) began
+
+-- the latest of these begins, one of each of these sessions
+abbrev pub latest_begin : Span → TimedHistory → Option ℕ
+latest_begin span [] = None
+latest_begin span (txns ∷ sessions) = later_time (begin_before span txns) (latest_begin span sessions)
+
+-- the number of the last of these transactions of a session that ended before one with this span began, unless it ended before this time
+abbrev pub last_since : Option ℕ → Span → List TimedTxn → Option ℕ
+last_since since span txns = let last = last_before span 0 txns in given_if (not (is_earlier (span_at txns last).ended since)) last
+
+-- of each of these sessions, the first with this number, the key of that last one
+abbrev pub ends_since : Option ℕ → Span → ℕ → TimedHistory → List (ℕ × Source)
+ends_since since span s [] = []
+ends_since since span s (txns ∷ sessions) = end_read s (last_since since span txns) ++ ends_since since span (s + 1) sessions
+
+-- Of each session the key of the last that ended before one with this span began, unless it ended before another one of these began: through that
+-- one it comes earlier anyway.
+abbrev pub end_reads : Span → TimedHistory → List (ℕ × Source)
+end_reads span timed = ends_since (latest_begin span timed) span 0 timed
 
 -- a transaction with these reads and writes as well
 abbrev pub strict_txn : TimedHistory → TxnId → TimedTxn → Txn
-strict_txn timed id t = record { reads = t.txn.reads ++ end_reads t.span 0 timed; writes = t.txn.writes ++ end_writes id t.span.ended }
+strict_txn timed id t = record { reads = t.txn.reads ++ end_reads t.span timed; writes = t.txn.writes ++ end_writes id t.span.ended }
 
 -- transactions of a session, the first with this number
 abbrev pub strict_txns : TimedHistory → ℕ → ℕ → List TimedTxn → List Txn

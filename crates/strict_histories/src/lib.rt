@@ -3,6 +3,7 @@
 #![tactic(auto)]
 
 mod ends;
+mod latest;
 mod laws;
 mod refuted;
 mod rewriting;

@@ -1,8 +1,9 @@
 ghost use Rattle.std.specs.Prelude.{◌≡◌, ◌<◌, ◌≤◌, ◌^◌, ◌++◌, All, length, IfOk, IfSome, OnOk};
 ghost use Rattle.strict_histories.specs.Ends.{AreAllEndsOf};
-ghost use Rattle.strict_histories.specs.Rewriting.{HasRoomForTimes, end_key, end_read, end_reads, end_writes, strict_history, strict_txn, strict_txns};
+ghost use Rattle.strict_histories.specs.Rewriting.{HasRoomForTimes, end_key, end_read, end_reads, end_writes, ends_since, strict_history, strict_txn, strict_txns};
 
-use crate::ends::{all_ends, last_end};
+use crate::ends::all_ends;
+use crate::latest::{last_since, latest_begin};
 use crate::timed::{Span, TimedTxn};
 use std::alloc::Global;
 use txn::{NUMBERS, NoMemory, Sequence, Source, Txn, TxnId};
@@ -38,6 +39,32 @@ fn push_end_read(
     }
 }
 
+/// Puts at the end, of each session, the read of the last end before one with this span began, unless that is before this time. Each session's ends
+/// are given.
+fn push_ends_since(
+    reads: &mut Vec<(u64, Source)>,
+    since: Option<u64>,
+    span: Span,
+    timed: &[Sequence<TimedTxn>],
+    ends: &[Sequence<(u64, u64)>],
+) -> Result<(), NoMemory>
+    requires sessions { length timed.now ≤ 256 }
+    requires numbers { All (λ txns. length txns ≤ 2 ^ 48) timed.now }
+    requires ends { AreAllEndsOf timed.now ends.now }
+    ensures { OnOk result (reads.new.items ≡ reads.old.items ++ ends_since since span 0 timed.now) }
+{
+    for session in 0..timed.len() {
+        let last = last_since(
+            since,
+            span,
+            timed[session].as_slice(),
+            ends[session].as_slice(),
+        );
+        push_end_read(reads, session as u8, last)?;
+    }
+    Ok(())
+}
+
 /// Puts at the end the reads by which one with this span comes after those that ended before it began. Each session's ends are given.
 fn push_end_reads(
     reads: &mut Vec<(u64, Source)>,
@@ -48,13 +75,10 @@ fn push_end_reads(
     requires sessions { length timed.now ≤ 256 }
     requires numbers { All (λ txns. length txns ≤ 2 ^ 48) timed.now }
     requires ends { AreAllEndsOf timed.now ends.now }
-    ensures { OnOk result (reads.new.items ≡ reads.old.items ++ end_reads span 0 timed.now) }
+    ensures { OnOk result (reads.new.items ≡ reads.old.items ++ end_reads span timed.now) }
 {
-    for session in 0..timed.len() {
-        let last = last_end(ends[session].as_slice(), span.began);
-        push_end_read(reads, session as u8, last)?;
-    }
-    Ok(())
+    let since = latest_begin(span, timed, ends);
+    push_ends_since(reads, since, span, timed, ends)
 }
 
 /// Puts the transaction's own key at the end, if it's known when it ended.

@@ -1,9 +1,6 @@
-//! Rounds over whole histories that are asked for strict serializability: what was offered with its times is rewritten, and judged by an
-//! engine.
+//! What a round over offers with times reports, and that an engine's report about the rewritten history is so.
 #![tactic(auto)]
 
 mod laws;
-mod rounds;
 
 pub use laws::right_reports_are_strict;
-pub use rounds::make_round;

@@ -48,7 +48,7 @@ const OVERWRITTEN: Sessions = [
     &[],
 ];
 
-static ROWS: [Row; 13] = [
+static ROWS: [Row; 16] = [
     // the read misses what had been committed before
     Row {
         sessions: STALE,
@@ -132,6 +132,39 @@ static ROWS: [Row; 13] = [
             &[(Some(1), Some(2))],
             &[(Some(3), Some(4))],
             &[(Some(1), Some(9))],
+        ],
+        by_order: Kind::Serial,
+        in_time: Kind::Violated,
+    },
+    // it comes later through one that began after the writer had ended
+    Row {
+        sessions: [&[(&[], &[5])], &[(&[], &[])], &[(&[(5, Init)], &[])]],
+        times: &[
+            &[(Some(1), Some(2))],
+            &[(Some(3), Some(4))],
+            &[(Some(5), Some(6))],
+        ],
+        by_order: Kind::Serial,
+        in_time: Kind::Violated,
+    },
+    // and also where that one began as the writer ended
+    Row {
+        sessions: [&[(&[], &[5])], &[(&[], &[])], &[(&[(5, Init)], &[])]],
+        times: &[
+            &[(Some(1), Some(3))],
+            &[(Some(3), Some(4))],
+            &[(Some(5), Some(6))],
+        ],
+        by_order: Kind::Serial,
+        in_time: Kind::Violated,
+    },
+    // the one between began after the writer had ended, and hadn't ended
+    Row {
+        sessions: [&[(&[], &[5])], &[(&[], &[])], &[(&[(5, Init)], &[])]],
+        times: &[
+            &[(Some(1), Some(2))],
+            &[(Some(3), Some(9))],
+            &[(Some(5), Some(6))],
         ],
         by_order: Kind::Serial,
         in_time: Kind::Violated,

@@ -1,26 +1,21 @@
-//! Rounds over small histories with times, beside a trial of all their orders.
+//! Scripts over small histories with times, beside a trial of all their orders.
 ghost use Rattle.std.specs.Prelude.{◌<◌};
 
-use logged_fragments::LoggedFragment;
+use cobra::{Failure, Means, MemorySink, MemorySource, Pace, Solvers, serve};
 use order_check::{Base, Kind, LastWriters, Parts, explains};
-use polygraph::{Effort, Single};
+use polygraph::Single;
 use std::alloc::Global;
 use std::process::Abort;
+use std::sync::Wait;
 use std::test::Fail;
+use std::thread;
+use std::thread::Threads;
 use strict_histories::{Span, TimedTxn, first_wrong_time};
-use strict_offers::Offered;
-use strict_rounds::make_round;
 use txn::Source::{self, By, Init};
-use txn::{Fragment, NoMemory, Refusal, Sequence, Txn, TxnId};
+use txn::{NoMemory, Sequence, Txn, TxnId};
 
 /// How many histories are tried.
-const HISTORIES: u64 = 10_000;
-
-const EFFORT: Effort = Effort {
-    budget: 4096,
-    depth: 0,
-    workers: 1,
-};
+const HISTORIES: u64 = 2_000;
 
 /// Two transactions of session 0, one of session 1 and one of session 2.
 static IDS: [TxnId; 4] = [
@@ -245,48 +240,170 @@ fn tried(rt: &impl Abort, alloc: Global, made: &Made) -> Result<Kind, Fail> {
     Ok(Kind::Violated)
 }
 
-/// Offers a session's transactions with their times.
-fn offer(
-    alloc: Global,
-    offered: &mut Offered,
-    session: u8,
-    timed: &[TimedTxn],
-) -> Result<Result<(), Refusal>, NoMemory> {
-    let mut spans = Vec::new(alloc);
-    for one in timed {
-        spans.push(one.span)?;
+/// Writes a comma, unless it is the first.
+fn push_comma(script: &mut String, place: usize) -> Result<(), NoMemory> {
+    if place > 0 {
+        script.push_str(",")
+    } else {
+        Ok(())
     }
-    let fragment = Fragment {
-        session,
-        first: 0,
-        txns: untimed(alloc, timed)?,
-    };
-    Ok(offered.offer(
-        alloc,
-        LoggedFragment::committed(alloc, fragment),
-        spans.as_slice(),
-    ))
 }
 
-/// Offers them all; whether none is refused. One is refused exactly if its times are impossible.
-fn offer_all(
-    rt: &impl Abort,
+fn push_read(script: &mut String, alloc: Global, read: (u64, Source)) -> Result<(), NoMemory> {
+    let key = read.0;
+    let text = match read.1 {
+        Init => format!(in alloc; "[{key},\"init\"]")?,
+        By(id) => {
+            let (session, number) = (id.session, id.number);
+            format!(in alloc; "[{key},{session},{number}]")?
+        }
+    };
+    script.push_str(text.as_str())
+}
+
+fn push_txn(script: &mut String, alloc: Global, txn: &Txn) -> Result<(), NoMemory> {
+    script.push_str("[[")?;
+    for (place, read) in txn.reads.as_slice().iter().enumerate() {
+        push_comma(script, place)?;
+        push_read(script, alloc, *read)?;
+    }
+    script.push_str("],[")?;
+    for (place, key) in txn.writes.as_slice().iter().enumerate() {
+        push_comma(script, place)?;
+        script.push_str(format!(in alloc; "{key}")?.as_str())?;
+    }
+    script.push_str("]]")
+}
+
+/// Writes when they began, or when they ended, as lines tell it.
+fn push_times(
+    script: &mut String,
     alloc: Global,
-    offered: &mut Offered,
-    made: &Made,
-) -> Result<bool, Fail> {
+    timed: &[TimedTxn],
+    ended: bool,
+) -> Result<(), NoMemory> {
+    script.push_str(",[")?;
+    for (place, one) in timed.iter().enumerate() {
+        push_comma(script, place)?;
+        let time = if ended {
+            one.span.ended.unwrap_or(u64::MAX)
+        } else {
+            one.span.began.unwrap_or(0)
+        };
+        script.push_str(format!(in alloc; "{time}")?.as_str())?;
+    }
+    script.push_str("]")
+}
+
+/// Writes the offer of a session's transactions with their times.
+fn push_offer(
+    script: &mut String,
+    alloc: Global,
+    session: u8,
+    timed: &[TimedTxn],
+) -> Result<(), NoMemory> {
+    script.push_str(format!(in alloc; "[\"offer\",{session},0,[")?.as_str())?;
+    for (place, one) in timed.iter().enumerate() {
+        push_comma(script, place)?;
+        push_txn(script, alloc, &one.txn)?;
+    }
+    script.push_str("]")?;
+    push_times(script, alloc, timed, false)?;
+    push_times(script, alloc, timed, true)?;
+    script.push_str("]\n")
+}
+
+/// A script over a history, and whether each offer can have its times: one is refused exactly if it can't.
+#[derive(Drop)]
+struct Asked {
+    script: String,
+    replies: String,
+    is_taken: bool,
+}
+
+fn asked_by(alloc: Global, made: &Made) -> Result<Asked, NoMemory> {
+    let mut asked = Asked {
+        script: String::from_str(alloc, "[\"open\",3,16,2,\"strict\"]\n")?,
+        replies: String::from_str(alloc, "[\"ok\"]\n")?,
+        is_taken: true,
+    };
     for session in 0..3 {
         let own = session_of(alloc, made, session)?;
-        let wrong = first_wrong_time(own.as_slice());
-        match offer(alloc, offered, session, own.as_slice())? {
-            Ok(()) => assert!(rt; wrong.is_none()),
-            Err(refusal) => {
-                assert!(rt; wrong.is_some() && refusal == Refusal::BadTxn);
-                return Ok(false);
-            }
+        push_offer(&mut asked.script, alloc, session, own.as_slice())?;
+        if first_wrong_time(own.as_slice()).is_none() {
+            asked.replies.push_str("[\"ok\"]\n")?;
+        } else {
+            asked.replies.push_str("[\"no\",3,\"BadTxn\"]\n")?;
+            asked.is_taken = false;
         }
     }
-    Ok(true)
+    asked.script.push_str("[\"round\",4096,0,1]\n")?;
+    Ok(asked)
+}
+
+/// What is replied to the script.
+fn replies<R: Threads + Wait>(rt: &R, alloc: Global, script: &str) -> Result<Vec<u8>, Failure> {
+    let mut source = MemorySource {
+        bytes: script.as_bytes(),
+        pace: Pace::new(4096, 0),
+        last_read: 0,
+    };
+    let mut sink = MemorySink {
+        bytes: Vec::new(alloc),
+        pace: Pace::new(4096, 0),
+    };
+    let solvers = Solvers {
+        plain: Single,
+        guided: Single,
+    };
+    thread::scope(thread::scope_env(), rt, |scope| {
+        let means = Means {
+            scope,
+            rt,
+            alloc,
+            solvers: &solvers,
+        };
+        serve(&means, &mut source, &mut sink)
+    })?;
+    Ok(sink.bytes)
+}
+
+fn word_of(kind: Kind) -> &'static str {
+    match kind {
+        Kind::Serial => "serial",
+        Kind::Pending => "pending",
+        Kind::Violated => "violated",
+        Kind::Spent => "spent",
+    }
+}
+
+/// The script is answered so: each offer as its times are, and the round, if all are taken, by this kind.
+fn assert_answered<R: Threads + Wait + Abort>(
+    rt: &R,
+    alloc: Global,
+    asked: Asked,
+    kind: Kind,
+) -> Result<(), Fail> {
+    let told = replies(rt, alloc, asked.script.as_str())?;
+    let mut wanted = asked.replies;
+    if asked.is_taken {
+        let word = word_of(kind);
+        wanted.push_str(format!(in alloc; "[\"report\",1,\"{word}\",[2,1,1],")?.as_str())?;
+    }
+    assert!(rt; told.starts_with(wanted.as_bytes()));
+    Ok(())
+}
+
+/// Where a kind is counted.
+fn place_of(is_taken: bool, kind: Kind) -> usize
+    ensures { result < 4 }
+{
+    match kind {
+        _ if !is_taken => 3,
+        Kind::Serial => 0,
+        Kind::Pending => 1,
+        _ => 2,
+    }
 }
 
 #[test]
@@ -296,21 +413,10 @@ fn small_histories_have_the_verdict_of_all_orders(rt: HostRuntime) -> Result<(),
     for seed in 0..HISTORIES {
         let mut dice = Dice { state: seed };
         let made = made_by(alloc, &mut dice)?;
-        let mut offered = Offered::open(alloc, 64, 3, 16)?;
-        if !offer_all(&rt, alloc, &mut offered, &made)? {
-            counts[3] = counts[3].wrapping_add(1);
-            continue;
-        }
         let kind = tried(&rt, alloc, &made)?;
-        match make_round(&mut offered, alloc, EFFORT, &Single) {
-            Ok(report) => assert!(rt; report.kind == kind && report.round == 1),
-            Err(_) => assert!(rt; false),
-        }
-        let place = match kind {
-            Kind::Serial => 0,
-            Kind::Pending => 1,
-            _ => 2,
-        };
+        let asked = asked_by(alloc, &made)?;
+        let place = place_of(asked.is_taken, kind);
+        assert_answered(&rt, alloc, asked, kind)?;
         counts[place] = counts[place].wrapping_add(1);
     }
     // There are many of each kind, so that the comparison says something.

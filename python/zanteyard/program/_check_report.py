@@ -14,7 +14,8 @@ from ._binaries import find_checker
 STATUSES = {0: 0, 3: 1, 4: 4}
 STATUS_WORDS = (
     "Exit status: 0 if each reply is right, 1 if one is wrong, 4 if none is, but some say that "
-    "memory was missing, which isn't checked; 2 if the call is wrong."
+    "memory was missing, which isn't checked, or the script resumes another or is strict, of which "
+    "nothing is; 2 if the call is wrong."
 )
 
 
