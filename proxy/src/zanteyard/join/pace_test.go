@@ -1,0 +1,204 @@
+package join
+
+import (
+	"context"
+	"fmt"
+	"math"
+	"testing"
+	"time"
+
+	"zanteyard/record"
+)
+
+// paced is an audit in simulated time: connections that commit at a rate, a slot that lags, meetings that take time, and an
+// auditor that takes a time for a round by how much remains.
+type paced struct {
+	*Joiner
+	t        testing.TB
+	now      time.Time
+	rate     int
+	lag      time.Duration // of the slot, and of reports
+	meets    time.Duration // how long a meeting holds clients
+	takes    func(n int) time.Duration
+	places   map[uint64]uint64
+	prepared []placedAt
+	place    uint64
+	held     time.Time   // clients are held until then
+	moment   func()      // of the meeting, then
+	upTo     []uint64    // what the last meeting's fences let the auditor forget
+	marks    [][]uint64  // by the rounds that aren't answered
+	due      []time.Time // when they are
+	from     []time.Time // what they are about had been reported by then
+	all      int
+	late     int // what would have come while clients were held
+	rounds   int
+	longest  time.Duration
+	oldest   time.Duration // a verdict, when the next one comes
+	verdict  time.Time
+}
+
+type placedAt struct {
+	batch uint64
+	at    time.Time
+}
+
+const tick = 5 * time.Millisecond
+
+// far is how long a transaction of the connections with odd numbers takes.
+const far = 20 * time.Millisecond
+
+func newPaced(t testing.TB, opt Options, connections, rate int, lag, meets time.Duration, takes func(n int) time.Duration) *paced {
+	p := &paced{t: t, now: time.Unix(1000, 0), rate: rate, lag: lag, meets: meets, takes: takes, places: map[uint64]uint64{}, place: 100}
+	p.Joiner = New(opt, NewInbox(1<<20), plainTables{}, nil, false, nil, kept{&[]Event{}})
+	p.meeter, p.inbox.now = p, func() time.Time { return p.now }
+	p.core = newCore(p.opt, plainTables{}, base, func([]byte) {}, p.now)
+	p.last, p.rounded, p.verdict = p.now, p.now, p.now
+	for n := 1; n <= connections; n++ {
+		p.core.enter(record.Connection{Number: uint64(n)})
+	}
+	return p
+}
+
+// Meet implements Meeter.
+func (p *paced) Meet(_ context.Context, _ []uint64, moment func(held time.Duration)) { moment(p.meets) }
+
+// Busy implements Meeter.
+func (p *paced) Busy([]uint64) (int, int) { return 100, 0 }
+
+func (p *paced) run(d time.Duration) {
+	ctx := context.Background()
+	for until := p.now.Add(d); p.now.Before(until); {
+		p.now = p.now.Add(tick)
+		p.core.now = p.now
+		p.answer()
+		p.tell()
+		p.pass()
+		p.core.step(p.now)
+		p.core.flush()
+		was := p.unanswered
+		p.step(ctx)
+		if p.unanswered > was {
+			p.asked()
+		}
+	}
+}
+
+// step is the joiner's: a meeting's goroutine has put its moment into the inbox, which is taken out once clients were held.
+func (p *paced) step(ctx context.Context) {
+	phase := p.meeting.phase
+	p.meet(ctx, p.now)
+	if phase == apart && p.meeting.phase == together {
+		p.held = p.now.Add(p.meets)
+	}
+	if p.meeting.phase != together || p.now.Before(p.held) {
+		return
+	}
+	for len(p.inbox.its) == 0 {
+		time.Sleep(time.Microsecond)
+		if its, _ := p.inbox.take(); len(its) > 0 {
+			p.inbox.its = its
+		}
+	}
+	its, _ := p.inbox.take()
+	its[0].moment.at = p.now
+	p.Joiner.moment(*its[0].moment)
+	p.upTo = p.forgettable()
+}
+
+// forgettable is what the meeting that has just been lets the auditor forget: all but the last fence of each session, and that
+// of the last one that had something to be forgotten.
+func (p *paced) forgettable() []uint64 {
+	its := p.core.numbers()
+	for i, s := range p.core.sessions {
+		if n := len(s.waiting); n > 0 && s.waiting[n-1].fence && (n == 1 || its[i] > s.mark+1) {
+			its[i]--
+		}
+	}
+	return its
+}
+
+// asked notes that a round was asked for.
+func (p *paced) asked() {
+	n := p.core.remain
+	took := p.takes(n)
+	from := p.now
+	if len(p.due) > 0 && p.due[len(p.due)-1].After(from) {
+		from = p.due[len(p.due)-1]
+	}
+	p.longest = longest(p.longest, took)
+	p.due, p.from, p.marks = append(p.due, from.Add(took)), append(p.from, p.now), append(p.marks, p.upTo)
+	p.upTo = nil
+}
+
+func (p *paced) answer() {
+	for len(p.due) > 0 && !p.due[0].After(p.now) {
+		p.oldest = longest(p.oldest, p.now.Sub(p.verdict))
+		p.verdict = p.from[0]
+		marks := p.marks[0]
+		p.due, p.from, p.marks = p.due[1:], p.from[1:], p.marks[1:]
+		p.rounds++
+		p.unanswered--
+		p.core.roundAnswered(p.unanswered)
+		if marks != nil && !p.core.cut(marks) {
+			p.t.Fatal("the marks are wrong")
+		}
+	}
+}
+
+// tell reports what ended in this step: of each second connection a transaction takes long.
+func (p *paced) tell() {
+	if p.now.Before(p.held) {
+		return // as many fewer are committed
+	}
+	n := p.rate * int(tick) / int(time.Second)
+	for ; n > 0; n-- {
+		p.all++
+		c := uint64(p.all%len(p.core.connections)) + 1
+		began := p.now.Add(-tick)
+		if c%2 == 1 {
+			began = p.now.Add(-far)
+		}
+		p.core.tell(record.Transaction{Connection: c, Place: p.places[c], Began: began, Ended: p.now, Reads: []record.Read{read("a", 7)}})
+		p.places[c]++
+	}
+}
+
+// pass lets the slot pass what was reported a while ago.
+func (p *paced) pass() {
+	if batch, wanted := p.core.wantsPlace(); wanted {
+		p.prepared = append(p.prepared, placedAt{batch, p.now})
+	}
+	for len(p.prepared) > 0 && p.now.Sub(p.prepared[0].at) >= p.lag {
+		p.place += 100
+		p.core.placed(p.prepared[0].batch, Place{At: p.place, Shows: "3:2000000000:"}, p.now)
+		p.core.advance(p.place)
+		p.prepared = p.prepared[1:]
+	}
+}
+
+func (p *paced) share() float64 {
+	n := p.core.counts
+	return 100 * float64(n.offered-n.fences) / float64(p.all)
+}
+
+// grows returns the time of a round whose number of transactions has this power, with a time for 100,000.
+func grows(power float64, of100k time.Duration) func(int) time.Duration {
+	return func(n int) time.Duration {
+		return 3*time.Millisecond + time.Duration(float64(of100k)*math.Pow(float64(n)/100_000, power))
+	}
+}
+
+func TestPaceTable(t *testing.T) {
+	for _, power := range []float64{1, 1.5, 2} {
+		for _, of100k := range []time.Duration{3 * time.Second, 10 * time.Second, 60 * time.Second, 180 * time.Second} {
+			for _, lag := range []time.Duration{50 * time.Millisecond, 500 * time.Millisecond} {
+				for _, rate := range []int{17_000} {
+					p := newPaced(t, Options{Sessions: 256, First: 8}, 160, rate, lag, 25*time.Millisecond, grows(power, of100k))
+					p.run(30 * time.Second)
+					fmt.Printf("power %.1f, 100k in %4.0f s, lag %3.0f ms, %6d/s: %5.1f%%  rounds %4d longest %6.2f oldest %6.2f fit %6d most %6d good %.3f\n",
+						power, of100k.Seconds(), lag.Seconds()*1000, rate, p.share(), p.rounds, p.longest.Seconds(), p.oldest.Seconds(), p.core.fit, p.core.most, p.core.good.Seconds())
+				}
+			}
+		}
+	}
+}
