@@ -119,7 +119,7 @@ func (p *paced) forgettable() []uint64 {
 
 // asked notes that a round was asked for.
 func (p *paced) asked() {
-	n := p.core.remain
+	n := p.core.inRound
 	took := p.takes(n)
 	from := p.now
 	if len(p.due) > 0 && p.due[len(p.due)-1].After(from) {
@@ -188,17 +188,39 @@ func grows(power float64, of100k time.Duration) func(int) time.Duration {
 	}
 }
 
-func TestPaceTable(t *testing.T) {
-	for _, power := range []float64{1, 1.5, 2} {
-		for _, of100k := range []time.Duration{3 * time.Second, 10 * time.Second, 60 * time.Second, 180 * time.Second} {
-			for _, lag := range []time.Duration{50 * time.Millisecond, 500 * time.Millisecond} {
-				for _, rate := range []int{17_000} {
-					p := newPaced(t, Options{Sessions: 256, First: 8}, 160, rate, lag, 25*time.Millisecond, grows(power, of100k))
-					p.run(30 * time.Second)
-					fmt.Printf("power %.1f, 100k in %4.0f s, lag %3.0f ms, %6d/s: %5.1f%%  rounds %4d longest %6.2f oldest %6.2f fit %6d most %6d good %.3f\n",
-						power, of100k.Seconds(), lag.Seconds()*1000, rate, p.share(), p.rounds, p.longest.Seconds(), p.oldest.Seconds(), p.core.fit, p.core.most, p.core.good.Seconds())
-				}
+// Seventeen thousand transactions a second, of which each meeting folds some: rounds stay so short that nearly all is checked,
+// though one of all that comes in five seconds would take a minute, and though what was reported before a meeting is known late.
+// An auditor that can't do with all of them is never idle.
+func TestRoundsStayShort(t *testing.T) {
+	const ms = time.Millisecond
+	for _, x := range []struct {
+		power   float64       // of the number of transactions, by which a round's time grows
+		of100k  time.Duration // a round of 100,000
+		lag     time.Duration
+		want    float64
+		longest time.Duration // a round, after some seconds
+	}{
+		{1, 10 * time.Second, 500 * ms, 52, time.Second},
+		{1.5, 10 * time.Second, 500 * ms, 98, 1200 * ms},
+		{2, time.Second, 50 * ms, 98, 1200 * ms},
+		{2, time.Minute, 50 * ms, 94, 400 * ms},
+		{2, time.Minute, 500 * ms, 93, 800 * ms},
+	} {
+		x := x
+		t.Run(fmt.Sprintf("%g %v %v", x.power, x.of100k, x.lag), func(t *testing.T) {
+			t.Parallel()
+			p := newPaced(t, Options{Sessions: 256, First: 8}, 160, 17_000, x.lag, 25*ms, grows(x.power, x.of100k))
+			p.run(10 * time.Second)
+			all, offered := p.all, p.core.counts.offered-p.core.counts.fences
+			p.longest, p.oldest, p.rounds = 0, 0, 0
+			p.run(10 * time.Second)
+			share := 100 * float64(p.core.counts.offered-p.core.counts.fences-offered) / float64(p.all-all)
+			told := fmt.Sprintf("%.1f of 100 are offered, the longest of %d rounds took %v, the oldest verdict was of %v ago: %v",
+				share, p.rounds, p.longest, p.oldest, p.core.counts.folded)
+			t.Log(told)
+			if share < x.want || p.longest > x.longest || p.oldest > 6*time.Second {
+				t.Error(told)
 			}
-		}
+		})
 	}
 }
