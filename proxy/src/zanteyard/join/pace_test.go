@@ -24,7 +24,6 @@ type paced struct {
 	prepared []placedAt
 	place    uint64
 	held     time.Time   // clients are held until then
-	moment   func()      // of the meeting, then
 	upTo     []uint64    // what the last meeting's fences let the auditor forget
 	marks    [][]uint64  // by the rounds that aren't answered
 	due      []time.Time // when they are
@@ -32,6 +31,7 @@ type paced struct {
 	all      int
 	late     int // what would have come while clients were held
 	rounds   int
+	kept     int // rounds for which something was kept back
 	longest  time.Duration
 	oldest   time.Duration // a verdict, when the next one comes
 	verdict  time.Time
@@ -119,8 +119,17 @@ func (p *paced) forgettable() []uint64 {
 
 // asked notes that a round was asked for.
 func (p *paced) asked() {
-	n := p.core.inRound
-	took := p.takes(n)
+	written := 0
+	for _, s := range p.core.sessions {
+		written += int(s.written - s.mark)
+	}
+	if p.core.going > 0 && written != p.core.inRound {
+		p.t.Errorf("the auditor has %d, and a round is about %d", written, p.core.inRound)
+	}
+	if p.core.going > 0 && p.core.since > 0 {
+		p.kept++
+	}
+	took := p.takes(written)
 	from := p.now
 	if len(p.due) > 0 && p.due[len(p.due)-1].After(from) {
 		from = p.due[len(p.due)-1]
@@ -212,13 +221,13 @@ func TestRoundsStayShort(t *testing.T) {
 			p := newPaced(t, Options{Sessions: 256, First: 8}, 160, 17_000, x.lag, 25*ms, grows(x.power, x.of100k))
 			p.run(10 * time.Second)
 			all, offered := p.all, p.core.counts.offered-p.core.counts.fences
-			p.longest, p.oldest, p.rounds = 0, 0, 0
+			p.longest, p.oldest, p.rounds, p.kept = 0, 0, 0, 0
 			p.run(10 * time.Second)
 			share := 100 * float64(p.core.counts.offered-p.core.counts.fences-offered) / float64(p.all-all)
-			told := fmt.Sprintf("%.1f of 100 are offered, the longest of %d rounds took %v, the oldest verdict was of %v ago: %v",
-				share, p.rounds, p.longest, p.oldest, p.core.counts.folded)
+			told := fmt.Sprintf("%.1f of 100 are offered, the longest of %d rounds took %v, %d without what came last, the oldest verdict was of %v ago: %v",
+				share, p.rounds, p.longest, p.kept, p.oldest, p.core.counts.folded)
 			t.Log(told)
-			if share < x.want || p.longest > x.longest || p.oldest > 6*time.Second {
+			if share < x.want || p.kept == 0 || p.longest > x.longest || p.oldest > 6*time.Second {
 				t.Error(told)
 			}
 		})
