@@ -111,18 +111,24 @@ func least(a, b int) int {
 
 func greatest(a, b int) int { return -least(-a, -b) }
 
-// roundAsked notes that another round is asked for, after which so many aren't answered. If sessions have met before it, it is
-// about what came before that, and may let the auditor forget all of it.
-func (c *core) roundAsked(unanswered int, met bool) {
+// roundAsked notes that another round is asked for, about so many, after which so many aren't answered. If sessions have met
+// before it, the auditor may forget all of these.
+func (c *core) roundAsked(unanswered, n int, met bool) {
 	c.until = nil
 	if unanswered > 1 {
 		return
 	}
-	c.asking, c.inRound, c.going = c.now, c.remain, 0
-	if met {
-		c.inRound = c.remain - c.since
-		c.going = c.inRound
+	if c.asking, c.inRound, c.going = c.now, n, 0; met {
+		c.going = n
 	}
+}
+
+// given returns how many transactions the auditor has.
+func (c *core) given() (n int) {
+	for _, s := range c.sessions {
+		n += int(s.written - s.mark)
+	}
+	return n
 }
 
 // isHeld reports whether a transaction was named after the moment of the meeting that is under way: it isn't given to the

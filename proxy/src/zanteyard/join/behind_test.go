@@ -210,7 +210,7 @@ func TestPace(t *testing.T) {
 		b, known := newBench(t, Options{Sessions: 256, Limit: 131_072}), false
 		for _, its := range one.rounds {
 			b.core.remain = its.n
-			b.core.roundAsked(1, true)
+			b.core.roundAsked(1, b.core.remain, true)
 			b.later(its.took)
 			b.core.counts.folded[noRoom] += its.left
 			b.core.roundAnswered(0)
@@ -228,7 +228,7 @@ func TestPace(t *testing.T) {
 	}
 	b := newBench(t, Options{Sessions: 1, Limit: 4})
 	b.core.remain = 4
-	b.core.roundAsked(1, true)
+	b.core.roundAsked(1, b.core.remain, true)
 	b.later(time.Hour).core.roundAnswered(0)
 	if b.core.most != 4 || b.core.fit != 4 {
 		t.Errorf("of a limit of 4 it leaves %d and %d", b.core.most, b.core.fit)
@@ -240,12 +240,12 @@ func TestRoomDuringALongRound(t *testing.T) {
 	b := newBench(t, Options{Sessions: 1})
 	b.core.fits(10_000)
 	b.core.remain, b.core.since = 10_000, 100
-	b.core.roundAsked(1, true)
+	b.core.roundAsked(1, b.core.remain, true)
 	const second = time.Second
 	for _, x := range []struct {
 		passed       time.Duration
 		most, remain int // may come until the next meeting, and remain
-	}{{second, 12_500, 34_902}, {3 * second / 2, 8_083, 26_068}, {100 * second, 4_096, 18_094}} {
+	}{{second, 12_500, 35_002}, {3 * second / 2, 8_164, 26_330}, {100 * second, 4_096, 18_194}} {
 		b.core.now = b.core.asking.Add(x.passed)
 		if most, remain := b.core.mostNow(), b.core.left()+b.core.remain; most != x.most || remain != x.remain {
 			t.Errorf("after %v %d may come, and %d remain", x.passed, most, remain)
@@ -266,7 +266,7 @@ func TestRoundsTakeAsLongAsMeetings(t *testing.T) {
 	} {
 		b.core.prepared(x.prepared)
 		b.core.remain = 10_000
-		b.core.roundAsked(1, false)
+		b.core.roundAsked(1, b.core.remain, false)
 		b.later(second)
 		b.core.counts.folded[noRoom] += x.left
 		if b.core.roundAnswered(0); b.core.good != x.good {
@@ -292,7 +292,7 @@ func TestLessRoomAfterASlowRound(t *testing.T) {
 	round := func(took time.Duration) {
 		b.later(time.Millisecond).core.meet(b.now)
 		b.pass()
-		b.core.roundAsked(1, true)
+		b.core.roundAsked(1, b.core.remain, true)
 		b.later(took).core.roundAnswered(0)
 		b.core.cut([]uint64{b.core.sessions[0].written})
 		b.model.sessions[0].mark = int(b.core.sessions[0].written)

@@ -31,7 +31,7 @@ func (j *Joiner) meet(ctx context.Context, now time.Time) {
 		if !j.meeting.isSettled && (j.core.isWritten(j.meeting.upTo) || now.Sub(j.meeting.noted) > j.meeting.waits()) {
 			j.settled(now)
 		}
-		if j.meeting.isSettled && (!j.meeting.follows || j.unanswered == 0 || now.Sub(j.meeting.noted) > patience) {
+		if j.meeting.isSettled && (!j.meeting.follows || j.unanswered == 0 || j.wanted || now.Sub(j.meeting.noted) > patience) {
 			j.endMeeting()
 		}
 	}
@@ -101,7 +101,7 @@ func (j *Joiner) endMeeting() {
 	}
 	j.core.round()
 	j.unanswered++
-	j.core.roundAsked(j.unanswered, !j.meeting.alone)
+	j.core.roundAsked(j.unanswered, j.core.given(), !j.meeting.alone)
 	isLast := j.meeting.isLast
 	j.meeting = meeting{}
 	if isLast {

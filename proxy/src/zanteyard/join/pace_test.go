@@ -32,6 +32,7 @@ type paced struct {
 	late     int // what would have come while clients were held
 	rounds   int
 	kept     int // rounds for which something was kept back
+	events   []Event
 	longest  time.Duration
 	oldest   time.Duration // a verdict, when the next one comes
 	verdict  time.Time
@@ -49,7 +50,7 @@ const far = 20 * time.Millisecond
 
 func newPaced(t testing.TB, opt Options, connections, rate int, lag, meets time.Duration, takes func(n int) time.Duration) *paced {
 	p := &paced{t: t, now: time.Unix(1000, 0), rate: rate, lag: lag, meets: meets, takes: takes, places: map[uint64]uint64{}, place: 100}
-	p.Joiner = New(opt, NewInbox(1<<20), plainTables{}, nil, false, nil, kept{&[]Event{}})
+	p.Joiner = New(opt, NewInbox(1<<20), plainTables{}, nil, false, nil, kept{&p.events})
 	p.meeter, p.inbox.now = p, func() time.Time { return p.now }
 	p.core = newCore(p.opt, plainTables{}, base, func([]byte) {}, p.now)
 	p.last, p.rounded, p.verdict = p.now, p.now, p.now
@@ -119,17 +120,14 @@ func (p *paced) forgettable() []uint64 {
 
 // asked notes that a round was asked for.
 func (p *paced) asked() {
-	written := 0
-	for _, s := range p.core.sessions {
-		written += int(s.written - s.mark)
-	}
-	if p.core.going > 0 && written != p.core.inRound {
-		p.t.Errorf("the auditor has %d, and a round is about %d", written, p.core.inRound)
+	n := p.core.given()
+	if p.core.going > 0 && n > p.core.remain-p.core.since {
+		p.t.Errorf("a round is about %d, and %d had come before its meeting", n, p.core.remain-p.core.since)
 	}
 	if p.core.going > 0 && p.core.since > 0 {
 		p.kept++
 	}
-	took := p.takes(written)
+	took := p.takes(n)
 	from := p.now
 	if len(p.due) > 0 && p.due[len(p.due)-1].After(from) {
 		from = p.due[len(p.due)-1]
@@ -231,5 +229,33 @@ func TestRoundsStayShort(t *testing.T) {
 				t.Error(told)
 			}
 		})
+	}
+}
+
+// While a round isn't answered, sessions meet for the next one, which isn't asked for before that. The last one is, since then
+// nothing else is waited for.
+func TestNextRoundIsPrepared(t *testing.T) {
+	const ms = time.Millisecond
+	p := newPaced(t, Options{Sessions: 256, First: 8}, 160, 17_000, 50*ms, 25*ms, func(int) time.Duration { return time.Hour })
+	p.run(2 * time.Second)
+	if !p.meeting.follows || !p.meeting.isSettled || p.unanswered != 1 {
+		t.Fatalf("no meeting waits for an answer: %+v, %d rounds aren't answered", p.meeting, p.unanswered)
+	}
+	meetings := p.meetings
+	p.run(2 * time.Second)
+	if p.meetings != meetings || p.unanswered != 1 {
+		t.Errorf("%d meetings more, %d rounds aren't answered", p.meetings-meetings, p.unanswered)
+	}
+	p.wanted, p.stopping = true, true
+	p.run(500 * ms)
+	if _, is := p.events[len(p.events)-1].(Stopped); !is || p.unanswered != 3 {
+		t.Errorf("the last round waits: %T, %d rounds aren't answered", p.events[len(p.events)-1], p.unanswered)
+	}
+	p.takes = func(int) time.Duration { return ms }
+	p.due[0] = p.now
+	p.due[1], p.due[2] = p.now, p.now
+	p.run(100 * ms)
+	if p.unanswered != 0 || p.core.remain > 2500 {
+		t.Errorf("%d rounds aren't answered, %d remain", p.unanswered, p.core.remain)
 	}
 }

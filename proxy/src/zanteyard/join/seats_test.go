@@ -254,7 +254,7 @@ func (p *pool) meet() {
 	p.met = p.now
 	p.pass()
 	p.core.round()
-	p.core.roundAsked(1, true)
+	p.core.roundAsked(1, p.core.remain, true)
 	p.core.roundAnswered(0)
 	marks := make([]uint64, len(p.core.sessions))
 	for i, s := range p.core.sessions {
