@@ -82,12 +82,9 @@ func (c *core) fits(n int) {
 	c.most = least(c.fit+c.fit/untilMet, c.opt.Limit)
 }
 
-// mostNow is how many may come between two meetings now: the fewer, the longer a round takes.
+// mostNow is how many may come between two meetings now: the fewer, the longer a round takes that isn't of few.
 func (c *core) mostNow() int {
-	if c.asking.IsZero() || c.inRound == 0 {
-		return c.most
-	}
-	if passed := c.now.Sub(c.asking); passed > c.good {
+	if passed := c.now.Sub(c.asking); !c.asking.IsZero() && passed > c.good && c.inRound >= leastFit {
 		return least(c.most, greatest(c.inTime(c.inRound, passed), leastFit))
 	}
 	return c.most

@@ -251,6 +251,12 @@ func TestRoomDuringALongRound(t *testing.T) {
 			t.Errorf("after %v %d may come, and %d remain", x.passed, most, remain)
 		}
 	}
+	if b.core.roundAsked(1, leastFit-1, true); b.core.mostNow() != 12_500 {
+		t.Errorf("during a round of few %d may come", b.core.mostNow())
+	}
+	if b.core.now = b.now.Add(time.Hour); b.core.mostNow() != 12_500 {
+		t.Errorf("during a round of few that takes long %d may come", b.core.mostNow())
+	}
 }
 
 // While transactions are left out, rounds take as long as a meeting does.

@@ -23,7 +23,8 @@ type paced struct {
 	places   map[uint64]uint64
 	prepared []placedAt
 	place    uint64
-	held     time.Time   // clients are held until then
+	held     time.Time // clients are held until then
+	moments  chan func(time.Duration)
 	upTo     []uint64    // what the last meeting's fences let the auditor forget
 	marks    [][]uint64  // by the rounds that aren't answered
 	due      []time.Time // when they are
@@ -49,7 +50,8 @@ const tick = 5 * time.Millisecond
 const far = 20 * time.Millisecond
 
 func newPaced(t testing.TB, opt Options, connections, rate int, lag, meets time.Duration, takes func(n int) time.Duration) *paced {
-	p := &paced{t: t, now: time.Unix(1000, 0), rate: rate, lag: lag, meets: meets, takes: takes, places: map[uint64]uint64{}, place: 100}
+	p := &paced{t: t, now: time.Unix(1000, 0), rate: rate, lag: lag, meets: meets, takes: takes, places: map[uint64]uint64{}, place: 100,
+		moments: make(chan func(time.Duration), 1)}
 	p.Joiner = New(opt, NewInbox(1<<20), plainTables{}, nil, false, nil, kept{&p.events})
 	p.meeter, p.inbox.now = p, func() time.Time { return p.now }
 	p.core = newCore(p.opt, plainTables{}, base, func([]byte) {}, p.now)
@@ -60,8 +62,10 @@ func newPaced(t testing.TB, opt Options, connections, rate int, lag, meets time.
 	return p
 }
 
-// Meet implements Meeter.
-func (p *paced) Meet(_ context.Context, _ []uint64, moment func(held time.Duration)) { moment(p.meets) }
+// Meet implements Meeter: the moment is when step calls for it.
+func (p *paced) Meet(_ context.Context, _ []uint64, moment func(held time.Duration)) {
+	p.moments <- moment
+}
 
 // Busy implements Meeter.
 func (p *paced) Busy([]uint64) (int, int) { return 100, 0 }
@@ -84,7 +88,7 @@ func (p *paced) run(d time.Duration) {
 	}
 }
 
-// step is the joiner's: a meeting's goroutine has put its moment into the inbox, which is taken out once clients were held.
+// step is the joiner's, and a meeting's moment once clients were held.
 func (p *paced) step(ctx context.Context) {
 	phase := p.meeting.phase
 	p.meet(ctx, p.now)
@@ -94,14 +98,8 @@ func (p *paced) step(ctx context.Context) {
 	if p.meeting.phase != together || p.now.Before(p.held) {
 		return
 	}
-	for len(p.inbox.its) == 0 {
-		time.Sleep(time.Microsecond)
-		if its, _ := p.inbox.take(); len(its) > 0 {
-			p.inbox.its = its
-		}
-	}
+	(<-p.moments)(p.meets)
 	its, _ := p.inbox.take()
-	its[0].moment.at = p.now
 	p.Joiner.moment(*its[0].moment)
 	p.upTo = p.forgettable()
 }
@@ -252,10 +250,8 @@ func TestNextRoundIsPrepared(t *testing.T) {
 		t.Errorf("the last round waits: %T, %d rounds aren't answered", p.events[len(p.events)-1], p.unanswered)
 	}
 	p.takes = func(int) time.Duration { return ms }
-	p.due[0] = p.now
-	p.due[1], p.due[2] = p.now, p.now
-	p.run(100 * ms)
-	if p.unanswered != 0 || p.core.remain > 2500 {
-		t.Errorf("%d rounds aren't answered, %d remain", p.unanswered, p.core.remain)
+	p.due[0], p.due[1], p.due[2] = p.now, p.now, p.now
+	if p.run(2 * time.Second); p.rounds < 5 || p.unanswered > 1 {
+		t.Errorf("%d rounds were answered, %d aren't", p.rounds, p.unanswered)
 	}
 }
