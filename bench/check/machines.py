@@ -52,7 +52,7 @@ TOP = os.path.join(os.path.dirname(os.path.abspath(__file__)), "../..")
 sys.path[:0] = [os.path.join(TOP, "python"), os.path.join(TOP, "python/tests")]
 
 import psycopg2
-from proxy_pair import Server, postgres_program, proxy_program
+from proxy_pair import Server, hears_interrupts, postgres_program, proxy_program
 
 LISTEN, PAGE, METRICS = 6432, 8080, 9464  # on each machine; on the first one
 LIMIT = 120.0  # seconds for whatever has to happen
@@ -474,6 +474,7 @@ def everything(asked: Any, folder: str) -> Iterator[World]:
 
 
 def main() -> int:
+    hears_interrupts()
     parser = argparse.ArgumentParser(description=__doc__.splitlines()[0])
     parser.add_argument("--delay", type=float, nargs="+", default=[1, 1, 20, 20], metavar="MS")
     parser.add_argument("--seconds", type=int, default=60, help="how long (60)")

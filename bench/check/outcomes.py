@@ -30,7 +30,7 @@ PYTHON = os.path.join(TOP, "python")
 sys.path[:0] = [PYTHON, os.path.join(PYTHON, "tests")]
 import psycopg2
 sys.path[:0] = [os.path.join(os.path.dirname(os.path.abspath(__file__)), "../cost")]
-from proxy_cost import free_port, wait_for, wait_for_audit
+from proxy_cost import free_port, hears_interrupts, wait_for, wait_for_audit
 from totals_server import Oracle
 
 TABLES = """
@@ -221,6 +221,7 @@ def logged(server: Oracle, at: int, path: str) -> None:
 
 
 def main() -> None:
+    hears_interrupts()
     form = argparse.RawDescriptionHelpFormatter
     parser = argparse.ArgumentParser(description=__doc__, formatter_class=form)
     parser.add_argument("folder", metavar="FOLDER")

@@ -34,7 +34,7 @@ TOP = os.path.join(os.path.dirname(os.path.abspath(__file__)), "../..")
 sys.path[:0] = [os.path.join(TOP, "python"), os.path.join(TOP, "python/tests")]
 
 import psycopg2
-from proxy_pair import Server, postgres_program, proxy_program
+from proxy_pair import Server, hears_interrupts, postgres_program, proxy_program
 
 ROWS = 20000
 AT_LEAST, BEGINNING = 95.0, 10.0  # percent, and seconds that aren't looked at
@@ -156,6 +156,7 @@ def run(asked: Any, folder: str, server: Server, proxy: str) -> bool:
 
 
 def main() -> int:
+    hears_interrupts()
     parser = argparse.ArgumentParser(description=__doc__.splitlines()[0])
     parser.add_argument("--connections", type=int, default=500)
     parser.add_argument("--busy", type=int, default=50, help="of them that work at any time (50)")

@@ -39,7 +39,7 @@ sys.path[:0] = [os.path.join(TOP, "python"), os.path.join(TOP, "python/tests")]
 
 sys.path[:0] = [os.path.join(os.path.dirname(os.path.abspath(__file__)), "../cost")]
 from proxy_cost import descendants, free_port, wait_for, wait_for_audit
-from proxy_pair import Server, postgres_program, proxy_program
+from proxy_pair import Server, hears_interrupts, postgres_program, proxy_program
 
 MANY = 30000  # parameters of a statement
 PROCESSES = 4  # that the clients of `churn` are spread over
@@ -343,6 +343,7 @@ def run(options: Any, folder: str) -> bool:
 
 
 def main() -> int:
+    hears_interrupts()
     signal.signal(signal.SIGINT, signal.default_int_handler)
     parser = argparse.ArgumentParser(description=__doc__, formatter_class=argparse.RawDescriptionHelpFormatter)
     parser.add_argument("--seconds", type=float, default=60)

@@ -31,7 +31,7 @@ TOP = os.path.normpath(os.path.join(os.path.dirname(os.path.abspath(__file__)), 
 PYTHON = os.path.join(TOP, "python")
 sys.path[:0] = [PYTHON, os.path.join(PYTHON, "tests")]
 sys.path[:0] = [os.path.join(os.path.dirname(os.path.abspath(__file__)), "../cost")]
-from proxy_cost import free_port, wait_for, wait_for_audit
+from proxy_cost import free_port, hears_interrupts, wait_for, wait_for_audit
 from totals_server import Oracle, Said
 from totals_works import WORKS, Missing, Where, Work
 
@@ -194,6 +194,7 @@ def run(name: str, work: Work, asked: Any) -> None:
 
 
 def main() -> None:
+    hears_interrupts()
     form = argparse.RawDescriptionHelpFormatter
     parser = argparse.ArgumentParser(description=__doc__, formatter_class=form)
     parser.add_argument("--work", nargs="+", choices=[*WORKS], default=[*WORKS], metavar="NAME")

@@ -39,7 +39,7 @@ TOP = os.path.join(os.path.dirname(os.path.abspath(__file__)), "../..")
 sys.path[:0] = [os.path.join(TOP, "python"), os.path.join(TOP, "python/tests")]
 
 import psycopg2
-from proxy_pair import Server, postgres_program, proxy_program
+from proxy_pair import Server, hears_interrupts, postgres_program, proxy_program
 
 PROCESSES = 4  # that the clients are spread over
 LIMIT = 120.0  # seconds for whatever has to happen
@@ -192,6 +192,7 @@ def proxy_of(folder):
 
 
 def main():
+    hears_interrupts()
     signal.signal(signal.SIGINT, signal.default_int_handler)  # a shell's & ignores it, which `watch` would inherit
     parser = argparse.ArgumentParser(description=__doc__, formatter_class=argparse.RawDescriptionHelpFormatter)
     parser.add_argument("--minutes", type=float, default=60)

@@ -57,7 +57,7 @@ sys.path[:0] = [os.path.join(TOP, "python"), os.path.join(TOP, "python/tests")]
 import psycopg2
 sys.path[:0] = [os.path.join(os.path.dirname(os.path.abspath(__file__)), "../cost")]
 from proxy_cost import descendants, free_port, processor_time
-from proxy_pair import Server, postgres_program, proxy_program
+from proxy_pair import Server, hears_interrupts, postgres_program, proxy_program
 from psycopg2 import errors
 
 LEVELS = {
@@ -519,6 +519,7 @@ def soak(asked: Any, server: Server, watch: Watch) -> int:
 
 
 def main() -> int:
+    hears_interrupts()
     parser = argparse.ArgumentParser(description=__doc__.splitlines()[0])
     parser.add_argument("--minutes", type=float, default=30, help="how long (30)")
     parser.add_argument("--level", choices=LEVELS, default="serializable")

@@ -26,7 +26,7 @@ TOP = os.path.normpath(os.path.join(os.path.dirname(os.path.abspath(__file__)), 
 sys.path[:0] = [os.path.join(TOP, "python"), os.path.join(TOP, "python/tests")]
 
 from proxy_cost import descendants, free_port, processor_time, wait_for_audit
-from proxy_pair import Server, postgres_program, proxy_program
+from proxy_pair import Server, hears_interrupts, postgres_program, proxy_program
 
 MOST = 1.0  # percent of a processor
 
@@ -99,6 +99,7 @@ def run(options: Any, folder: str) -> bool:
 
 
 def main() -> int:
+    hears_interrupts()
     signal.signal(signal.SIGINT, signal.default_int_handler)
     parser = argparse.ArgumentParser(description=__doc__, formatter_class=argparse.RawDescriptionHelpFormatter)
     parser.add_argument("--tables", type=int, default=20)

@@ -42,7 +42,7 @@ sys.path[:0] = [os.path.join(TOP, "python"), os.path.join(TOP, "python/tests")]
 
 import psycopg2
 from proxy_cost import free_port, prepared_server, wait_for, wait_for_audit
-from proxy_pair import postgres_program
+from proxy_pair import hears_interrupts, postgres_program
 
 TURN = 50  # statements of one way before the next one's
 WAYS = ("direct", "proxy", "audited")
@@ -211,6 +211,7 @@ def measure(name: str, options: Any, where: str, direct: int, folder: str) -> No
 
 
 def main() -> None:
+    hears_interrupts()
     signal.signal(signal.SIGINT, signal.default_int_handler)
     parser = argparse.ArgumentParser(description=__doc__, formatter_class=argparse.RawDescriptionHelpFormatter)
     parser.add_argument("--statements", type=int, default=2000)

@@ -32,7 +32,7 @@ from dataclasses import dataclass, field
 from typing import Any
 
 from proxy_cost import TOP, descendants, free_port, prepared_server, processor_time, wait_for
-from proxy_cost import postgres_program, wait_for_audit
+from proxy_cost import hears_interrupts, postgres_program, wait_for_audit
 
 LOOKS = 0.2  # seconds between two looks at the metrics
 AT_LEAST, AT_MOST = 99.9, 2.0  # percent checked, and seconds of the last verdict's age
@@ -189,6 +189,7 @@ def run(asked: Any, folder: str, port: int, proxy: str, work: str, clients: int)
 
 
 def main() -> None:
+    hears_interrupts()
     parser = argparse.ArgumentParser(description=__doc__.splitlines()[0])
     parser.add_argument("--seconds", type=int, default=60, help="the length of a run (60)")
     parser.add_argument("--run", nargs="+", default=["select:8", "select:32", "update:32"])

@@ -35,7 +35,7 @@ from typing import Any
 
 TOP = os.path.join(os.path.dirname(os.path.abspath(__file__)), "../..")
 sys.path[:0] = [os.path.join(TOP, "python"), os.path.join(TOP, "python/tests")]
-from proxy_pair import Server, postgres_program, proxy_program
+from proxy_pair import Server, hears_interrupts, postgres_program, proxy_program
 
 WAYS = ("direct", "pgbouncer", "slot", "passing", "audited", "followed")
 WORKS = ("select", "update", "tpcb", "transfer", "asks")
@@ -344,6 +344,7 @@ def prepared_server(folder: str, scale: int) -> Iterator[tuple[Server, str]]:
 
 
 def main() -> None:
+    hears_interrupts()
     parser = argparse.ArgumentParser(description=__doc__.splitlines()[0])
     parser.add_argument("--seconds", type=int, default=5, help="the length of a run (5)")
     parser.add_argument("--times", type=int, default=5, help="how many runs of each kind (5)")

@@ -7,6 +7,7 @@ import glob
 import json
 import os
 import shutil
+import signal
 import subprocess
 import tempfile
 import threading
@@ -52,6 +53,12 @@ def proxy_program(folder: str) -> str | None:
     if done.returncode:
         raise AssertionError(done.stdout + done.stderr)
     return os.path.join(folder, "zanteyard-proxy")
+
+
+def hears_interrupts() -> None:
+    """Makes the programs that this one starts end at SIGINT. A shell without job control starts a
+    program in the background that ignores it, as nohup does, and so would whatever it starts."""
+    signal.signal(signal.SIGINT, signal.default_int_handler)
 
 
 class Server:

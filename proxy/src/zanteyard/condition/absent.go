@@ -104,13 +104,13 @@ func (j *joins) inQuery(query tree, tested any, statement map[string]any, text s
 		}
 	}
 	f := newForm(statement, text, j.catalog)
-	if err := f.from(from[0]); err != nil {
+	if err := f.from(from[0], j.catalog); err != nil {
 		return nil, err
 	}
-	if !f.isFirst(from[0]) {
+	if !f.isFirst(from[0], j.catalog) {
 		return nil, mayBeHidden
 	}
-	if f.Drops = f.setReturning(query); f.Drops != "" {
+	if f.Drops = f.setReturning(query, j.catalog); f.Drops != "" {
 		return nil, Refusal(f.Drops)
 	}
 	for _, one := range j.scopes {
@@ -121,7 +121,7 @@ func (j *joins) inQuery(query tree, tested any, statement map[string]any, text s
 	its := *j
 	its.inner, f.Given = &scope{entry: from[0], table: f.Table, name: f.Name}, true
 	made := &parted{form: f, others: map[string][]expression{}}
-	inside, outside := &reader{form: f, joins: &its}, &reader{form: f, joins: j}
+	inside, outside := &reader{form: f, catalog: j.catalog, joins: &its}, &reader{form: f, catalog: j.catalog, joins: j}
 	for _, one := range conjuncts(query["whereClause"]) {
 		if err := made.add(func() (expression, error) { return inside.truth(one) }); err != nil {
 			return nil, err

@@ -11,11 +11,11 @@ import "zanteyard/catalog"
 // alone.
 func (j *joins) checked(of *scope, statement map[string]any, text string) *Form {
 	f := newForm(statement, text, j.catalog)
-	if of.nullable || f.from(of.entry) != nil || len(j.scopes) < 2 {
+	if of.nullable || f.from(of.entry, j.catalog) != nil || len(j.scopes) < 2 {
 		return nil
 	}
 	links := map[[2]*scope][][2]int16{}
-	r := &reader{form: f, joins: j}
+	r := &reader{form: f, catalog: j.catalog, joins: j}
 	var args []expression
 	for _, one := range j.where {
 		its, err := j.named(one)
@@ -38,7 +38,7 @@ func (j *joins) checked(of *scope, statement map[string]any, text string) *Form 
 	}
 	f.root = allOf(append(args, nulls...))
 	kind, body := open(statement)
-	f.Checked, f.Drops = true, f.drops(kind, body)
+	f.Checked, f.Drops = true, f.drops(kind, body, j.catalog)
 	return f
 }
 

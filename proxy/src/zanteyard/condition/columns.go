@@ -89,7 +89,7 @@ func (r *reader) suits(column *catalog.Column, name symbol) error {
 // elsewhere refuses an operator if one that somebody has made has its name, is visible, and takes the column as its
 // operand, perhaps as another type that the server casts it to by itself.
 func (r *reader) elsewhere(column *catalog.Column, name symbol) error {
-	casts := r.form.catalog.CastsElsewhere(column.Declared, column.Base)
+	casts := r.catalog.CastsElsewhere(column.Declared, column.Base)
 	_, isOfRanges := rangeTests[name.name]
 	if by := familyOfColumn(column); casts && (isOfRanges || by == ranges || by == labelled) {
 		return operatorElse // one operator is for all such types, so that another one may fit better once there is a cast
@@ -97,7 +97,7 @@ func (r *reader) elsewhere(column *catalog.Column, name symbol) error {
 	if name.qualified {
 		return nil
 	}
-	others := r.form.catalog.OperatorsElsewhere(name.name)
+	others := r.catalog.OperatorsElsewhere(name.name)
 	if len(others) > 0 && casts {
 		return operatorElse
 	}

@@ -35,9 +35,10 @@ const (
 
 // reader makes expressions of parse trees.
 type reader struct {
-	form  *Form
-	joins *joins // nil for one table
-	inner int    // in how many expressions it is that may hold because what is in them doesn't
+	form    *Form
+	catalog *catalog.Catalog
+	joins   *joins // nil for one table
+	inner   int    // in how many expressions it is that may hold because what is in them doesn't
 }
 
 func (r *reader) where(value any) (expression, error) {

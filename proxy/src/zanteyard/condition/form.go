@@ -36,7 +36,7 @@ type Form struct {
 	// is for the caller to know.
 	Drops string
 
-	catalog  *catalog.Catalog
+	encoding string    // the server's
 	text     string    // that the parse tree was made from
 	literals []literal // in it
 	// elsewhere counts the places in which the statement has a parameter outside of what the form reads.
@@ -89,14 +89,14 @@ func Make(statement map[string]any, text string, c *catalog.Catalog) (*Form, err
 		return nil, err
 	}
 	f := newForm(statement, text, c)
-	if err := f.from(from); err != nil {
+	if err := f.from(from, c); err != nil {
 		return nil, err
 	}
-	if kind != "SelectStmt" && !f.isFirst(from) {
+	if kind != "SelectStmt" && !f.isFirst(from, c) {
 		return nil, mayBeHidden
 	}
-	f.Drops = f.drops(kind, body)
-	r := &reader{form: f}
+	f.Drops = f.drops(kind, body, c)
+	r := &reader{form: f, catalog: c}
 	f.sorted = sorts(body, f.Table, func(value any) *catalog.Column {
 		column, err := r.column(value)
 		if err != nil {
@@ -131,7 +131,7 @@ func skipsNothing(body tree) error {
 
 // newForm makes a form without a table, and counts the places of its parameters.
 func newForm(statement map[string]any, text string, c *catalog.Catalog) *Form {
-	f := &Form{catalog: c, text: text, elsewhere: map[int]int{}}
+	f := &Form{encoding: c.Encoding, text: text, elsewhere: map[int]int{}}
 	visit(statement, func(kind string, body tree) {
 		if kind == "ParamRef" {
 			f.elsewhere[body.number("number")]++
@@ -141,7 +141,7 @@ func newForm(statement map[string]any, text string, c *catalog.Catalog) *Form {
 }
 
 // from finds the table.
-func (f *Form) from(entry any) error {
+func (f *Form) from(entry any, c *catalog.Catalog) error {
 	kind, body := open(entry)
 	switch kind {
 	case "RangeVar":
@@ -150,7 +150,7 @@ func (f *Form) from(entry any) error {
 	default:
 		return notOneTable
 	}
-	table, ok := f.catalog.Find(body.text("schemaname"), body.text("relname"))
+	table, ok := c.Find(body.text("schemaname"), body.text("relname"))
 	switch {
 	case !ok, body.has("catalogname"):
 		return unknownTable
@@ -164,7 +164,7 @@ func (f *Form) from(entry any) error {
 		return aPartition
 	case body.tree("alias").has("colnames"):
 		return renamedColumns
-	case !f.catalog.Own():
+	case !c.Own():
 		return pathOrder
 	}
 	f.Table, f.Name = table, body.text("relname")
@@ -175,13 +175,13 @@ func (f *Form) from(entry any) error {
 }
 
 // isFirst reports whether a name can't come to mean another table for a moment, which no result would show.
-func (f *Form) isFirst(entry any) bool {
+func (f *Form) isFirst(entry any, c *catalog.Catalog) bool {
 	_, body := open(entry)
-	return body.has("schemaname") || f.catalog.First(f.Table.Schema)
+	return body.has("schemaname") || c.First(f.Table.Schema)
 }
 
 // drops returns why a row that satisfies the condition may be missing in the result.
-func (f *Form) drops(kind string, body tree) string {
+func (f *Form) drops(kind string, body tree, c *catalog.Catalog) string {
 	if kind != "SelectStmt" {
 		switch {
 		case f.Table.Triggers:
@@ -197,12 +197,12 @@ func (f *Form) drops(kind string, body tree) string {
 	case distinctOn(body):
 		return "DISTINCT ON"
 	}
-	return f.setReturning(body)
+	return f.setReturning(body, c)
 }
 
 // setReturning says that a query calls a function that may return no row.
-func (f *Form) setReturning(query tree) string {
-	if ReturnsSets(map[string]any(query), f.catalog) {
+func (f *Form) setReturning(query tree, c *catalog.Catalog) string {
+	if ReturnsSets(map[string]any(query), c) {
 		return "a function that returns any number of rows"
 	}
 	return ""

@@ -17,10 +17,10 @@ func (j *joins) alone(of *scope, statement map[string]any, text string) *Form {
 		return nil
 	}
 	f := newForm(statement, text, j.catalog)
-	if f.from(of.entry) != nil {
+	if f.from(of.entry, j.catalog) != nil {
 		return nil
 	}
-	r, named := &reader{form: f, joins: j}, map[int16]bool{}
+	r, named := &reader{form: f, catalog: j.catalog, joins: j}, map[int16]bool{}
 	var args []expression
 	for _, one := range j.where {
 		its, err := j.named(one)

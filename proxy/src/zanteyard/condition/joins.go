@@ -261,7 +261,7 @@ func conjuncts(value any) []any {
 // side makes the form of one table.
 func (j *joins) side(of *scope, statement map[string]any, text string) (*Form, error) {
 	f := newForm(statement, text, j.catalog)
-	if err := f.from(of.entry); err != nil {
+	if err := f.from(of.entry, j.catalog); err != nil {
 		return nil, err
 	}
 	core := 0
@@ -288,7 +288,7 @@ func (j *joins) side(of *scope, statement map[string]any, text string) (*Form, e
 		}
 	}
 	made := &parted{form: f, others: map[string][]expression{}}
-	r := &reader{form: f, joins: j}
+	r := &reader{form: f, catalog: j.catalog, joins: j}
 	kind, body := open(statement)
 	var unread []any
 	var why error
@@ -312,10 +312,10 @@ func (j *joins) side(of *scope, statement map[string]any, text string) (*Form, e
 			}
 		}
 	}
-	if kind != "SelectStmt" && !f.isFirst(of.entry) {
+	if kind != "SelectStmt" && !f.isFirst(of.entry, j.catalog) {
 		return nil, mayBeHidden
 	}
-	f.Drops = f.drops(kind, body)
+	f.Drops = f.drops(kind, body, j.catalog)
 	if !of.nullable {
 		f.sorted = sorts(j.order, of.table, func(value any) *catalog.Column {
 			_, body := open(value)

@@ -31,7 +31,7 @@ func (j *joins) likewise(conditions []any, of *scope, p *parted, locks bool) boo
 		return len(conditions) == 0
 	}
 	sort.Slice(columns, func(i, k int) bool { return columns[i].Number < columns[k].Number }) // a tree's parts come in any order
-	r := &reader{form: p.form, joins: j}
+	r := &reader{form: p.form, catalog: j.catalog, joins: j}
 	for _, column := range columns {
 		if column.Generated || column.Collation == catalog.NotDeterministic || r.elsewhere(column, symbol{name: "=", qualified: true}) != nil {
 			return false

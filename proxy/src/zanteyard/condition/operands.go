@@ -89,7 +89,7 @@ func (r *reader) rangeMade(body tree) (operand, error) {
 		}
 	}
 	name := names[len(names)-1]
-	if len(names) == 1 && r.form.catalog.FunctionElsewhere(name) || len(names) > 2 || len(names) == 2 && names[0] != "pg_catalog" {
+	if len(names) == 1 && r.catalog.FunctionElsewhere(name) || len(names) > 2 || len(names) == 2 && names[0] != "pg_catalog" {
 		return operand{}, functionElse
 	}
 	its := operand{cast: rangeTypes[name], qualified: len(names) == 2}
@@ -169,7 +169,7 @@ func (r *reader) castType(name tree) (typ uint32, array, bare bool, err error) {
 	names := name.names("names")
 	if len(names) == 2 && names[0] == "pg_catalog" {
 		names = names[1:]
-	} else if len(names) != 1 || r.form.catalog.TypeElsewhere(names[0]) {
+	} else if len(names) != 1 || r.catalog.TypeElsewhere(names[0]) {
 		return 0, false, false, castElsewhere
 	}
 	typ, ok := typeNames[names[0]]

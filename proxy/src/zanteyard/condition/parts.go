@@ -382,7 +382,7 @@ func (l likened) bind(b *binder) (part, error) {
 	if err != nil {
 		return part{}, err
 	}
-	pattern, err := patternOf(value.s, b.form.catalog.Encoding)
+	pattern, err := patternOf(value.s, b.form.encoding)
 	if err != nil {
 		return part{}, err
 	}

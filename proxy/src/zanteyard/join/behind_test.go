@@ -210,38 +210,73 @@ func TestPace(t *testing.T) {
 		b, known := newBench(t, Options{Sessions: 256, Limit: 131_072}), false
 		for _, its := range one.rounds {
 			b.core.remain = its.n
-			b.core.roundAsked(1)
+			b.core.roundAsked(1, b.core.remain, true)
 			b.later(its.took)
 			b.core.counts.folded[noRoom] += its.left
 			b.core.roundAnswered(0)
 			if b.core.fit != its.fit {
 				t.Errorf("%s: after %d in %v so many fit: %d, wanted %d", one.name, its.n, its.took, b.core.fit, its.fit)
 			}
-			most := least(greatest(3*its.fit, 2048), 131_072)
-			if known = known || its.fit != firstFit; !known {
-				most = 131_072
+			most := 131_072
+			if known = known || its.fit != firstFit; known {
+				most = least(its.fit+its.fit/4, most)
 			}
-			if room := b.core.room(); room != most-512-its.n {
-				t.Errorf("%s: there is room for %d", one.name, room)
+			if room := b.core.room(); b.core.most != most || room != least(most, least(131_072, 2*most+1024)-512-its.n) {
+				t.Errorf("%s: %d may come, and there is room for %d", one.name, b.core.most, room)
 			}
 		}
 	}
 	b := newBench(t, Options{Sessions: 1, Limit: 4})
 	b.core.remain = 4
-	b.core.roundAsked(1)
+	b.core.roundAsked(1, b.core.remain, true)
 	b.later(time.Hour).core.roundAnswered(0)
 	if b.core.most != 4 || b.core.fit != 4 {
 		t.Errorf("of a limit of 4 it leaves %d and %d", b.core.most, b.core.fit)
 	}
-	b = newBench(t, Options{Sessions: 1}) // while a round takes long, less room is left
-	b.core.remain = 5_000
-	b.core.roundAsked(1)
+}
+
+// While a round takes long, fewer may come.
+func TestRoomDuringALongRound(t *testing.T) {
+	b := newBench(t, Options{Sessions: 1})
+	b.core.fits(10_000)
+	b.core.remain, b.core.since = 10_000, 100
+	b.core.roundAsked(1, b.core.remain, true)
+	const second = time.Second
 	for _, x := range []struct {
-		passed time.Duration
-		most   int
-	}{{second, 13_192}, {2 * second, 9_096}, {100 * second, 9_096}} {
-		if b.core.now = b.now.Add(x.passed); b.core.mostNow() != x.most {
-			t.Errorf("after %v %d may remain, wanted %d", x.passed, b.core.mostNow(), x.most)
+		passed       time.Duration
+		most, remain int // may come until the next meeting, and remain
+	}{{second, 12_500, 35_002}, {3 * second / 2, 8_164, 26_330}, {100 * second, 4_096, 18_194}} {
+		b.core.now = b.core.asking.Add(x.passed)
+		if most, remain := b.core.mostNow(), b.core.left()+b.core.remain; most != x.most || remain != x.remain {
+			t.Errorf("after %v %d may come, and %d remain", x.passed, most, remain)
+		}
+	}
+	if b.core.roundAsked(1, leastFit-1, true); b.core.mostNow() != 12_500 {
+		t.Errorf("during a round of few %d may come", b.core.mostNow())
+	}
+	if b.core.now = b.now.Add(time.Hour); b.core.mostNow() != 12_500 {
+		t.Errorf("during a round of few that takes long %d may come", b.core.mostNow())
+	}
+}
+
+// While transactions are left out, rounds take as long as a meeting does.
+func TestRoundsTakeAsLongAsMeetings(t *testing.T) {
+	const second = time.Second
+	b := newBench(t, Options{Sessions: 256})
+	for _, x := range []struct {
+		prepared, good time.Duration
+		left           uint64
+	}{
+		{second / 5, second, 0}, {second / 5, second / 2, 1}, {second / 5, second / 4, 1}, {second / 5, second / 5, 1},
+		{second / 5, second / 5, 0}, {second, second / 4, 1}, {second, second * 5 / 16, 1}, {second / 100, second * 25 / 64, 1},
+	} {
+		b.core.prepared(x.prepared)
+		b.core.remain = 10_000
+		b.core.roundAsked(1, b.core.remain, false)
+		b.later(second)
+		b.core.counts.folded[noRoom] += x.left
+		if b.core.roundAnswered(0); b.core.good != x.good {
+			t.Errorf("%+v: rounds should take %v", x, b.core.good)
 		}
 	}
 }
@@ -263,21 +298,21 @@ func TestLessRoomAfterASlowRound(t *testing.T) {
 	round := func(took time.Duration) {
 		b.later(time.Millisecond).core.meet(b.now)
 		b.pass()
-		b.core.roundAsked(1)
+		b.core.roundAsked(1, b.core.remain, true)
 		b.later(took).core.roundAnswered(0)
 		b.core.cut([]uint64{b.core.sessions[0].written})
 		b.model.sessions[0].mark = int(b.core.sessions[0].written)
 	}
 	tell(5000)
 	round(4 * time.Second)
-	if tell(3*4096 - 2); b.core.counts.folded[noRoom] != 0 || len(told) > 0 {
+	if tell(4096 + 1024); b.core.counts.folded[noRoom] != 0 || len(told) > 0 {
 		t.Errorf("%d are left out, told %v", b.core.counts.folded[noRoom], told)
 	}
 	tell(100)
 	if n := b.core.counts.folded[noRoom]; n != 100 {
 		t.Errorf("%d are left out", n)
 	}
-	if warning, is := told[0].(Warning); len(told) != 1 || !is || !strings.Contains(warning.Text, "it is given 12288 transactions at a time") {
+	if warning, is := told[0].(Warning); len(told) != 1 || !is || !strings.Contains(warning.Text, "it is given 5120 transactions at a time") {
 		t.Errorf("told: %+v", told)
 	}
 }

@@ -57,7 +57,7 @@ func (c *core) passBeside() {
 
 // waitsBeside reports whether a transaction isn't offered yet because of those that ran beside it.
 func (c *core) waitsBeside(e *entry) bool {
-	if c.looked.IsZero() || e.writer == nil || !e.told.After(c.beside) || c.now.Sub(e.told) >= c.opt.Late || c.room() < c.most/2 {
+	if c.looked.IsZero() || e.writer == nil || !e.told.After(c.beside) || c.now.Sub(e.told) >= c.opt.Late || c.left() < c.remain+c.opt.fenceRoom() {
 		return false
 	}
 	for _, one := range e.writer.writes() {

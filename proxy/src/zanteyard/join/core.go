@@ -39,11 +39,15 @@ type core struct {
 	bytes       int           // about how many bytes these take
 	asking      time.Time     // since when a round isn't answered; zero if each is
 	inRound     int           // how many it is about
+	going       int           // and how many of these it may let the auditor forget
 	took        time.Duration // by the last one that was answered
-	fit         int           // how many should come between two meetings, by the time that rounds take
-	most        int           // how many may remain, by the same
+	prepares    time.Duration // how long a meeting takes, with what was reported before it
+	until       []uint64      // of each session, the numbers that are before the moment of the meeting under way; nil: there is none
+	fit         int           // how many a round should have, by the time that rounds take
+	most        int           // how many may come between two meetings, by the same
 	good        time.Duration // how long a round should take
 	leftBefore  uint64        // how many were left out for want of room up to the last round
+	crowded     bool          // some were since the one before
 	full        time.Time     // since when there is no room; zero if there is
 
 	rows       *rows

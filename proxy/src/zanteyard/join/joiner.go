@@ -453,7 +453,7 @@ func (j *Joiner) busy() int {
 // answer.
 func (j *Joiner) askPlace(ctx context.Context, now time.Time) {
 	pause := askPlace
-	if j.meeting.phase != apart || len(j.core.held) > 0 {
+	if j.meeting.phase != apart && !j.meeting.isSettled || len(j.core.held) > 0 {
 		pause = askSoon
 	}
 	if j.placing || now.Sub(j.placedAt) < pause {

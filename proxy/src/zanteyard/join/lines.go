@@ -11,6 +11,9 @@ func (c *core) write(s *session) bool {
 	moved := false
 	for len(s.waiting) > 0 {
 		e := s.waiting[0]
+		if c.isHeld(e) {
+			break
+		}
 		to, ok := c.resolve(e)
 		if !ok {
 			break

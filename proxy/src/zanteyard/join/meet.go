@@ -19,13 +19,19 @@ func (j *Joiner) meet(ctx context.Context, now time.Time) {
 		switch {
 		case j.wanted || may && j.core.wantsMeeting(j.last, j.busy):
 			j.comeTogether(ctx, now)
+		case j.unanswered == 1 && j.core.maySoon(j.last):
+			j.comeTogether(ctx, now)
+			j.meeting.follows = true
 		case may && j.core.wantsRound(j.rounded):
 			j.checkAlone(now)
 		default:
 			j.sought = time.Time{}
 		}
 	case settling:
-		if j.core.isWritten(j.meeting.upTo) || now.Sub(j.meeting.noted) > j.meeting.waits() {
+		if !j.meeting.isSettled && (j.core.isWritten(j.meeting.upTo) || now.Sub(j.meeting.noted) > j.meeting.waits()) {
+			j.settled(now)
+		}
+		if j.meeting.isSettled && (!j.meeting.follows || j.unanswered == 0 || j.wanted || now.Sub(j.meeting.noted) > patience) {
 			j.endMeeting()
 		}
 	}
@@ -62,6 +68,9 @@ func (j *Joiner) moment(it moment) {
 	guard.At("a moment")
 	fences := j.core.meet(it.at)
 	j.meeting.phase, j.meeting.noted, j.meeting.upTo = settling, j.core.now, j.core.numbers()
+	if !j.meeting.isLast {
+		j.core.until = j.meeting.upTo
+	}
 	j.rounded, j.core.unchecked = j.core.now, 0
 	j.output.Event(Meeting{At: it.at, Fences: fences, Took: it.held})
 }
@@ -71,6 +80,14 @@ func (j *Joiner) checkAlone(now time.Time) {
 	j.sought, j.rounded = time.Time{}, now
 	j.core.unchecked = 0
 	j.meeting = meeting{phase: settling, noted: now, upTo: j.core.numbers(), alone: true}
+}
+
+// settled notes that the meeting's round may be asked for.
+func (j *Joiner) settled(now time.Time) {
+	j.meeting.isSettled = true
+	if !j.meeting.alone {
+		j.core.prepared(now.Sub(j.last))
+	}
 }
 
 // endMeeting makes the auditor check and forget.
@@ -84,7 +101,7 @@ func (j *Joiner) endMeeting() {
 	}
 	j.core.round()
 	j.unanswered++
-	j.core.roundAsked(j.unanswered)
+	j.core.roundAsked(j.unanswered, j.core.given(), !j.meeting.alone)
 	isLast := j.meeting.isLast
 	j.meeting = meeting{}
 	if isLast {

@@ -28,6 +28,8 @@ type meeting struct {
 	noted  time.Time
 	isLast bool // it was requested by stop
 	alone  bool // it is a round alone: no moment was sought
+	// follows: its round has to wait until the one before it is answered. isSettled: it waits for nothing else.
+	follows, isSettled bool
 }
 
 // mostSettling is how long a round waits for what was reported before its meeting, and lastSettling how long the last
@@ -44,9 +46,6 @@ func (m *meeting) waits() time.Duration {
 	}
 	return mostSettling
 }
-
-// room returns how many more transactions may be named.
-func (c *core) room() int { return c.mostNow() - c.opt.fenceRoom() - c.remain }
 
 // isShort reports whether a meeting is wanted soon: before nothing more is taken, before a round takes long, or since
 // connections that work have no session.

