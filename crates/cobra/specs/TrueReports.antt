@@ -9,11 +9,12 @@ use Rattle.order_check.specs.declared.remainder.Kind.TheVariants as kinds
 use Rattle.order_check.specs.StandsFor.{StandsFor, history_after, with_fragment}
 use Rattle.order_check.specs.Whole.{ExplainsWhole}
 use Rattle.log_text.specs.declared.commands.Command.{Command}
-use Rattle.log_text.specs.declared.commands.Command.TheVariants.{Start, StartIsolated, Offer, Join, Begin, Round, Resumed}
+use Rattle.log_text.specs.declared.commands.Command.TheVariants.{Start, Offer, Join, Begin, Round, Resumed}
 use Rattle.log_text.specs.declared.replies.Reply.{Reply}
 use Rattle.log_text.specs.declared.replies.Reply.TheVariants as told
 use Rattle.log_text.specs.Replies.{line_of}
 use Rattle.log_text.specs.declared.versions.Opening.TheVariants.{Ordered, Isolated}
+use Rattle.log_text.specs.declared.versions.Promise.TheVariants.{Resumable}
 use Rattle.round_state.specs.EngineState.{EngineState}
 use Rattle.round_state.specs.Legal.{IsTrueOf}
 use Rattle.round_state.specs.Opening.{no_history}
@@ -62,10 +63,13 @@ accepted_more old command answer = old
 abbrev pub moved : Accepted → List TxnId → Accepted
 moved old ahead = record old { past = option_map (λ gone. gone ++ ahead) old.past }
 
+-- where nothing was accepted, and nothing is gone
+abbrev pub nothing_accepted : ℕ → Accepted
+nothing_accepted sessions = record { whole = no_history sessions; asked = no_history sessions; left = true; past = Some [] }
+
 -- The same of a script: nothing was accepted where one is opened, and nothing is gone. One that resumes another begins with the whole history of that.
 abbrev pub accepted_after : Origin → Option Accepted → Command → Reply → Option Accepted
-accepted_after origin None (Start sessions limit version) told.Done = Some (record { whole = no_history sessions; asked = no_history sessions; left = true; past = Some [] })
-accepted_after origin None (StartIsolated sessions limit version) told.Done = Some (record { whole = no_history sessions; asked = no_history sessions; left = true; past = Some [] })
+accepted_after origin None (Start sessions limit (Resumable opening)) told.Done = Some (nothing_accepted sessions)
 accepted_after origin None Resumed told.Done = Some (record { whole = origin.whole; asked = origin.whole; left = origin.left; past = origin.past })
 accepted_after origin None command answer = None
 accepted_after origin (Some old) command answer = Some (accepted_more old command answer)
@@ -98,8 +102,8 @@ IsKeptSplit gone engine whole asked =
 -- What the engine of a script holds remains of what was accepted, behind what is gone, in this order, split or not: so what a show, a save and a cut
 -- tell of is that. The open round's snapshot is one of what was accepted when the round began, behind the same.
 abbrev pub IsKeptBehind : Stage → List TxnId → Accepted → Type 0
-IsKeptBehind (stage.Open audit version) gone accepted = HoldsBehind gone audit.engine accepted.whole accepted.asked
-IsKeptBehind (stage.Isolated audit version) gone accepted = IsKeptSplit gone audit.engine accepted.whole accepted.asked
+IsKeptBehind (stage.Open audit (Ordered version)) gone accepted = HoldsBehind gone audit.engine accepted.whole accepted.asked
+IsKeptBehind (stage.Open audit (Isolated version)) gone accepted = IsKeptSplit gone audit.engine accepted.whole accepted.asked
 IsKeptBehind other gone accepted = ⊥
 
 -- the same of a script, once an engine is open and where the order of what is gone is known
@@ -119,7 +123,7 @@ MovesHalves answer ahead = ahead ≡ []
 
 -- by what the script asks for
 abbrev pub MovesBehind : Stage → Reply → List TxnId → Type 0
-MovesBehind (stage.Isolated audit version) answer ahead = MovesHalves answer ahead
+MovesBehind (stage.Open audit (Isolated version)) answer ahead = MovesHalves answer ahead
 MovesBehind other answer ahead = MovesTxns answer ahead
 
 -- Once an engine is open: the reply is true of what was accepted by then, and puts these behind what is gone. Before, there are none.

@@ -20,7 +20,8 @@ use Rattle.isolation_scripts.specs.Legal.{LegalIsolation}
 use Rattle.cobra.specs.Outputs.{Asks}
 use Rattle.cobra.specs.StepReplies.{claim_of, report_of}
 use Rattle.report_checking.specs.Checking.{Checks, IsRightReply, IsUnchecked}
-use Rattle.report_checking.specs.Isolation.{IsOwedIsolation, names_of, told_by}
+use Rattle.log_text.specs.Versions.{names_of}
+use Rattle.report_checking.specs.Isolation.{IsOwedIsolation, told_by}
 use Rattle.log_text.specs.Shown.{IsShownIn}
 use Rattle.report_checking.specs.OwedLines.{OwesLine, ScriptState}
 use Rattle.report_checking.specs.Owing.{IsOwedReport}
