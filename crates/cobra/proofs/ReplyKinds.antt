@@ -167,11 +167,11 @@ beside_kind version old new (Finish budget depth workers search) answer is = fin
 beside_kind version old new command answer is = open_kind version old.engine new.engine command answer is.0
 
 isolated_kind : (reply : Reply) → HasKindOfOrder reply → HasKindOfOrder (isolated_of reply)
-isolated_kind (told.Order round kinds.Serial counts order) of = tt
-isolated_kind (told.Order round kinds.Pending counts order) of = tt
-isolated_kind (told.Order round kinds.Violated counts order) of = absurd of
-isolated_kind (told.Order round kinds.Spent counts order) of = absurd of
-isolated_kind (told.Violated round counts tree) of = tt
+isolated_kind (told.Order names round kinds.Serial counts order) of = tt
+isolated_kind (told.Order names round kinds.Pending counts order) of = tt
+isolated_kind (told.Order names round kinds.Violated counts order) of = absurd of
+isolated_kind (told.Order names round kinds.Spent counts order) of = absurd of
+isolated_kind (told.Violated names round counts tree) of = tt
 isolated_kind (told.Spent round counts) of = tt
 isolated_kind (told.Cut fence gone last) of = tt
 isolated_kind (told.Show marks received closed last remaining) of = tt

@@ -20,6 +20,7 @@ use Rattle.log_text.specs.declared.commands.Command.{Command}
 use Rattle.log_text.specs.declared.commands.Command.TheVariants.{Start, Offer, OfferTimed, Join, Close, Begin, Finish, Round, BeginSearch, Collect, Skip, Truncate, Rebuild, Show, Resume, Marks, MarksBegun, Last, Resumed, Save, Answer}
 use Rattle.log_text.specs.declared.commands.Wanted.{Wanted}
 use Rattle.log_text.specs.declared.commands.Wanted.TheVariants as wanted
+use Rattle.log_text.specs.declared.names.Names.TheVariants.{Ids, Events}
 use Rattle.log_text.specs.declared.replies.Reply.{Reply}
 use Rattle.log_text.specs.declared.replies.Reply.TheVariants as told
 use Rattle.log_text.specs.declared.saved.Saved.TheVariants as saved
@@ -119,13 +120,13 @@ Fits other (Some accepted) = ⊥
 
 -- A reply to a script whose transactions aren't split is true: none tells of begins and commits.
 abbrev TellsByOrder : Bool → Option (List TxnId) → History → Reply → Type 0
-TellsByOrder left past history (told.Events round kind counts order) = ⊥
-TellsByOrder left past history (told.Broken round counts tree) = ⊥
+TellsByOrder left past history (told.Order Events round kind counts order) = ⊥
+TellsByOrder left past history (told.Violated Events round counts tree) = ⊥
 TellsByOrder left past history answer = TellsTrueOf left past history answer
 
 truly : (left : Bool) (past : Option (List TxnId)) (history : History) (answer : Reply) → TellsByOrder left past history answer → TellsTrueOf left past history answer
-truly left past history (told.Events round kind counts order) tells = absurd tells
-truly left past history (told.Broken round counts tree) tells = absurd tells
+truly left past history (told.Order Events round kind counts order) tells = absurd tells
+truly left past history (told.Violated Events round counts tree) tells = absurd tells
 truly left past history answer tells = tells
 
 stands_still : (engine : EngineState) (accepted : Accepted) → Stands engine accepted → Stands engine (moved accepted [])
@@ -524,12 +525,10 @@ isolated_quietly accepted command answer new is_true moves holds = record {
 
 split_moves : CommittedAreOfCommits → (left : Bool) (past : Option (List TxnId)) (history : History) (inner : Reply) (ahead : List TxnId) → TellsByOrder left past history inner → MovesTxns inner ahead → MovesHalves (isolated_of inner) ahead
 split_moves committed_has left past history (told.Cut fence gone last) ahead tells moves = λ id. (λ has. (committed_has gone id).0 ((moves (commit_half id)).0 has), λ has. (moves (commit_half id)).1 ((committed_has gone id).1 has))
-split_moves committed_has left past history (told.Order round kind counts order) ahead tells moves = moves
-split_moves committed_has left past history (told.Violated round counts tree) ahead tells moves = moves
+split_moves committed_has left past history (told.Order names round kind counts order) ahead tells moves = moves
+split_moves committed_has left past history (told.Violated names round counts tree) ahead tells moves = moves
 split_moves committed_has left past history (told.Spent round counts) ahead tells moves = moves
 split_moves committed_has left past history (told.Show marks received closed last remaining) ahead tells moves = moves
-split_moves committed_has left past history (told.Events round kind counts order) ahead tells moves = absurd tells
-split_moves committed_has left past history (told.Broken round counts tree) ahead tells moves = absurd tells
 split_moves committed_has left past history inner ahead tells moves = moves
 
 halved_counts : SplitDoublesCounts → HalvedCountsAreWhole → (history : History) (counts : List ℕ) → counts ≡ map length (split_history history) → halved counts ≡ map length history
@@ -550,18 +549,18 @@ kept_behind isolate history gone order h = subst (IsSnapshotOrder history) (map-
 
 -- what is true of the split history is told of the history
 isolated_true : Laws → (left : Bool) (past : Option (List TxnId)) (history : History) (inner : Reply) → HistoryCanBeSplit history → TellsByOrder left past (split_history history) inner → TellsTrueOf left past history (isolated_of inner)
-isolated_true laws left past history (told.Order round kind counts order) can tells = (
+isolated_true laws left past history (told.Order Ids round kind counts order) can tells = (
   halved_counts laws.doubles laws.halving history counts tells.0,
   isolation_of laws.verdict history kind can tells.1,
   λ yes. ends_isolated laws.isolate history order (tells.2 yes),
   some_map past (λ gone. ExplainsWhole (split_history history) (gone ++ order)) (λ gone. KeepsBehind history (map event_at gone) (map event_at order)) (λ gone. kept_behind laws.isolate history gone order) tells.3,
 )
-isolated_true laws left past history (told.Violated round counts tree) can tells = (halved_counts laws.doubles laws.halving history counts tells.0, isolation_of laws.verdict history kinds.Violated can tells.1)
+isolated_true laws left past history (told.Violated Ids round counts tree) can tells = (halved_counts laws.doubles laws.halving history counts tells.0, isolation_of laws.verdict history kinds.Violated can tells.1)
 isolated_true laws left past history (told.Spent round counts) can tells = halved_counts laws.doubles laws.halving history counts tells
 isolated_true laws left past history (told.Cut fence gone last) can tells = tt
 isolated_true laws left past history (told.Show marks received closed last remaining) can tells = tt
-isolated_true laws left past history (told.Events round kind counts order) can tells = absurd tells
-isolated_true laws left past history (told.Broken round counts tree) can tells = absurd tells
+isolated_true laws left past history (told.Order Events round kind counts order) can tells = absurd tells
+isolated_true laws left past history (told.Violated Events round counts tree) can tells = absurd tells
 isolated_true laws left past history inner can tells = tells
 
 -- a reply that is told so
@@ -629,8 +628,8 @@ isolated_rest laws version old new accepted next command inner history is holds 
 -- a round may begin
 begun_on : Laws → (version : Version) (old new : AuditState) (accepted : Accepted) (inner : Reply) → AnswersBeside version old Begin inner new → StandsSplit old.engine accepted → IsIsolatedOn accepted Begin (isolated_of inner) new.engine
 begun_on laws version old new accepted told.Done is holds = isolated_rest laws version old new accepted (record accepted { asked = accepted.whole }) Begin told.Done accepted.asked is holds refl refl holds.holds.asked refl refl holds.holds.whole holds.holds.whole
-begun_on laws version old new accepted (told.Order round kind counts order) is holds = isolated_rest laws version old new accepted accepted Begin (told.Order round kind counts order) accepted.asked is holds refl refl holds.holds.asked refl refl holds.holds.whole holds.holds.asked
-begun_on laws version old new accepted (told.Violated round counts tree) is holds = isolated_rest laws version old new accepted accepted Begin (told.Violated round counts tree) accepted.asked is holds refl refl holds.holds.asked refl refl holds.holds.whole holds.holds.asked
+begun_on laws version old new accepted (told.Order names round kind counts order) is holds = isolated_rest laws version old new accepted accepted Begin (told.Order names round kind counts order) accepted.asked is holds refl refl holds.holds.asked refl refl holds.holds.whole holds.holds.asked
+begun_on laws version old new accepted (told.Violated names round counts tree) is holds = isolated_rest laws version old new accepted accepted Begin (told.Violated names round counts tree) accepted.asked is holds refl refl holds.holds.asked refl refl holds.holds.whole holds.holds.asked
 begun_on laws version old new accepted (told.Spent round counts) is holds = isolated_rest laws version old new accepted accepted Begin (told.Spent round counts) accepted.asked is holds refl refl holds.holds.asked refl refl holds.holds.whole holds.holds.asked
 begun_on laws version old new accepted (told.Cut fence gone last) is holds = isolated_rest laws version old new accepted accepted Begin (told.Cut fence gone last) accepted.asked is holds refl refl holds.holds.asked refl refl holds.holds.whole holds.holds.asked
 begun_on laws version old new accepted (told.Show marks received closed last remaining) is holds = isolated_rest laws version old new accepted accepted Begin (told.Show marks received closed last remaining) accepted.asked is holds refl refl holds.holds.asked refl refl holds.holds.whole holds.holds.asked

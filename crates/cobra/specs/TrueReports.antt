@@ -10,6 +10,7 @@ use Rattle.order_check.specs.StandsFor.{StandsFor, history_after, with_fragment}
 use Rattle.order_check.specs.Whole.{ExplainsWhole}
 use Rattle.log_text.specs.declared.commands.Command.{Command}
 use Rattle.log_text.specs.declared.commands.Command.TheVariants.{Start, Offer, Join, Begin, Round, Resumed}
+use Rattle.log_text.specs.declared.names.Names.TheVariants.{Ids, Events}
 use Rattle.log_text.specs.declared.replies.Reply.{Reply}
 use Rattle.log_text.specs.declared.replies.Reply.TheVariants as told
 use Rattle.log_text.specs.Replies.{line_of}
@@ -84,12 +85,12 @@ reported_on accepted command = accepted.asked
 -- explains the whole history, or of one of begins and commits of all of it that is snapshot isolation: where what is kept is what is left of it. Where
 -- the order of what is gone is known, put behind that it explains the whole history, or is one of begins and commits that is snapshot isolation.
 abbrev pub TellsTrueOf : Bool → Option (List TxnId) → History → Reply → Type 0
-TellsTrueOf left past history (told.Order round kind counts order) = (counts ≡ map length history) × IsTrueOf history kind × (left ≡ true → EndsOrder history order) × IfSome past (λ gone. ExplainsWhole history (gone ++ order))
-TellsTrueOf left past history (told.Violated round counts tree) = (counts ≡ map length history) × IsTrueOf history kinds.Violated
-TellsTrueOf left past history (told.Events round kind counts order) =
+TellsTrueOf left past history (told.Order Ids round kind counts order) = (counts ≡ map length history) × IsTrueOf history kind × (left ≡ true → EndsOrder history order) × IfSome past (λ gone. ExplainsWhole history (gone ++ order))
+TellsTrueOf left past history (told.Violated Ids round counts tree) = (counts ≡ map length history) × IsTrueOf history kinds.Violated
+TellsTrueOf left past history (told.Order Events round kind counts order) =
     (counts ≡ map length history) × IsIsolationOf history kind × (left ≡ true → EndsSnapshotOrder history (map event_at order))
     × IfSome past (λ gone. KeepsBehind history (map event_at gone) (map event_at order))
-TellsTrueOf left past history (told.Broken round counts tree) = (counts ≡ map length history) × IsIsolationOf history kinds.Violated
+TellsTrueOf left past history (told.Violated Events round counts tree) = (counts ≡ map length history) × IsIsolationOf history kinds.Violated
 TellsTrueOf left past history (told.Spent round counts) = counts ≡ map length history
 TellsTrueOf left past history other = ⊤
 

@@ -65,8 +65,8 @@ takes_first asked is = other_refusal is
 
 -- where transactions are split
 memory_by_halves : (inner : Reply) → told.No NoMemory ≡ isolated_of inner → told.No NoMemory ≡ inner
-memory_by_halves (told.Order round kind counts order) is = absurd (let no : ⊥ = cc in no)
-memory_by_halves (told.Violated round counts tree) is = absurd (let no : ⊥ = cc in no)
+memory_by_halves (told.Order names round kind counts order) is = absurd (let no : ⊥ = cc in no)
+memory_by_halves (told.Violated names round counts tree) is = absurd (let no : ⊥ = cc in no)
 memory_by_halves (told.Spent round counts) is = absurd (let no : ⊥ = cc in no)
 memory_by_halves (told.Cut fence gone last) is = absurd (let no : ⊥ = cc in no)
 memory_by_halves (told.Show marks received closed last remaining) is = absurd (let no : ⊥ = cc in no)

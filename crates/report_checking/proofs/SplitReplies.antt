@@ -18,6 +18,7 @@ use Rattle.log_text.specs.declared.replies.Reply.TheVariants as told
 use Rattle.log_text.specs.declared.versions.Version.{Version}
 use Rattle.log_text.specs.Versions.{has_form, most_sessions, version_of}
 use Rattle.log_text.specs.Replies.{HasKindOfOrder, text_of}
+use Rattle.log_text.specs.declared.names.Names.{Names}
 use Rattle.log_text.specs.declared.names.Names.TheVariants.{Ids, Events}
 use Rattle.log_text.specs.declared.versions.Opening.{Opening}
 use Rattle.log_text.specs.declared.versions.Opening.TheVariants.{Ordered, Isolated}
@@ -356,15 +357,15 @@ asked_owed laws version old new searched now asked inner can leads before holds 
 
 -- ---- what is owed
 
-ordered_kind : (round : ℕ) (kind : Kind) (counts : List ℕ) (order : List TxnId) → HasKindOfOrder (told.Order round kind counts order) → HasKindOfOrder (told.Events round kind (halved counts) order)
-ordered_kind round kinds.Serial counts order is = tt
-ordered_kind round kinds.Pending counts order is = tt
-ordered_kind round kinds.Violated counts order is = is
-ordered_kind round kinds.Spent counts order is = is
+ordered_kind : (names : Names) (round : ℕ) (kind : Kind) (counts : List ℕ) (order : List TxnId) → HasKindOfOrder (told.Order names round kind counts order) → HasKindOfOrder (told.Order Events round kind (halved counts) order)
+ordered_kind names round kinds.Serial counts order is = tt
+ordered_kind names round kinds.Pending counts order is = tt
+ordered_kind names round kinds.Violated counts order is = is
+ordered_kind names round kinds.Spent counts order is = is
 
 kind_told : (inner : Reply) → HasKindOfOrder inner → HasKindOfOrder (isolated_of inner)
-kind_told (told.Order round kind counts order) is = ordered_kind round kind counts order is
-kind_told (told.Violated round counts tree) is = tt
+kind_told (told.Order names round kind counts order) is = ordered_kind names round kind counts order is
+kind_told (told.Violated names round counts tree) is = tt
 kind_told (told.Spent round counts) is = tt
 kind_told (told.Cut fence gone last) is = tt
 kind_told (told.Show marks received closed last remaining) is = tt

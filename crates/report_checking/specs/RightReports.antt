@@ -76,10 +76,8 @@ TellsRightReport (Some old) line stored = IsRightReport old line stored
 
 -- the reply isn't a report
 abbrev pub IsNoReport : Reply → Type 0
-IsNoReport (told.Order round kind counts order) = ⊥
-IsNoReport (told.Violated round counts tree) = ⊥
-IsNoReport (told.Events round kind counts order) = ⊥
-IsNoReport (told.Broken round counts tree) = ⊥
+IsNoReport (told.Order names round kind counts order) = ⊥
+IsNoReport (told.Violated names round counts tree) = ⊥
 IsNoReport (told.Spent round counts) = ⊥
 IsNoReport answer = ⊤
 
