@@ -1,10 +1,19 @@
 // Lines of scripts.
-use log_text::{Command, Names, Opening, Search, Shown, Version, Wanted, read_line};
+use log_text::{Command, Names, Opening, Promise, Search, Shown, Version, Wanted, read_line};
 use logged_fragments::LoggedFragment;
 use std::alloc::Global;
 use std::process::Abort;
 use std::test::Fail;
 use txn::{Refusal, Source, TxnId};
+
+// What a script is opened for.
+fn promised(promise: Promise) -> (&'static str, Version) {
+    match promise {
+        Promise::Resumable(Opening::Ordered(version)) => ("open", version),
+        Promise::Resumable(Opening::Isolated(version)) => ("open isolated", version),
+        Promise::Strict(version) => ("open strict", version),
+    }
+}
 
 // What a command says, for comparison; the transactions of an offer and of a join are counted.
 fn numbers_of(command: &Command) -> (&'static str, [u64; 3]) {
@@ -12,21 +21,11 @@ fn numbers_of(command: &Command) -> (&'static str, [u64; 3]) {
         Command::Start {
             sessions,
             limit,
-            version,
-        } => ("open", [*sessions, *limit, version_number(*version)]),
-        Command::StartIsolated {
-            sessions,
-            limit,
-            version,
-        } => (
-            "open isolated",
-            [*sessions, *limit, version_number(*version)],
-        ),
-        Command::StartStrict {
-            sessions,
-            limit,
-            version,
-        } => ("open strict", [*sessions, *limit, version_number(*version)]),
+            promise,
+        } => {
+            let (name, version) = promised(*promise);
+            (name, [*sessions, *limit, version_number(version)])
+        }
         Command::Offer(logged) => ("offer", fragment_numbers(logged)),
         Command::OfferTimed {
             logged,

@@ -158,6 +158,7 @@ fn ordered(alloc: Global, kind: Kind) -> Result<Reply, NoMemory>
         _ => Kind::Serial,
     };
     Ok(Reply::Order {
+        names: Names::Ids,
         round,
         kind,
         counts,
@@ -170,6 +171,7 @@ fn violated_by(alloc: Global, tree: Tree) -> Result<Reply, NoMemory>
 {
     let counts = numbers(alloc, &[2])?;
     Ok(Reply::Violated {
+        names: Names::Ids,
         round: 1,
         counts,
         tree,
@@ -179,7 +181,8 @@ fn violated_by(alloc: Global, tree: Tree) -> Result<Reply, NoMemory>
 fn ordered_events(alloc: Global) -> Result<Reply, NoMemory>
     ensures { IfOk result (λ reply. HasKindOfOrder reply) }
 {
-    Ok(Reply::Events {
+    Ok(Reply::Order {
+        names: Names::Events,
         round: 281474976710655,
         kind: Kind::Serial,
         counts: numbers(alloc, &[2, 1])?,
@@ -190,7 +193,8 @@ fn ordered_events(alloc: Global) -> Result<Reply, NoMemory>
 fn broken_by(alloc: Global, tree: Tree) -> Result<Reply, NoMemory>
     ensures { IfOk result (λ reply. HasKindOfOrder reply) }
 {
-    Ok(Reply::Broken {
+    Ok(Reply::Violated {
+        names: Names::Events,
         round: 1,
         counts: numbers(alloc, &[2])?,
         tree,

@@ -201,7 +201,7 @@ checkpoint_taken parts version given good many is =
 
 pub given_out_is_taken : GivenOutIsTaken
 given_out_is_taken parts version limit given good within is = record {
-  resumes = ((good.some_sessions, good.few_sessions, good.low_sessions), within, refl);
+  resumes = (((good.some_sessions, good.few_sessions, good.low_sessions), within), refl);
   taken = checkpoint_taken (bounded parts (most_sessions version) limit) version given good refl is;
   good = good_again (bounded parts (most_sessions version) limit) good;
   same = parts_again (bounded parts (most_sessions version) limit);

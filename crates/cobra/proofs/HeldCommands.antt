@@ -239,6 +239,6 @@ pub enough_held : (most : ℕ) (old : Stage) → 256 < most → ((handed : Handi
 enough_held most stage.Nothing above none command answer new is = anew_answers most stage.Nothing command answer new is
 enough_held most (stage.Resuming sessions limit opening) above none command answer new is = resuming_answers most sessions limit opening command answer new is
 enough_held most (stage.Handing handed opening) above none command answer new is = absurd (none handed opening refl)
-enough_held most (stage.Open old version) above none command answer new is = (is.0, beside_answers most version old is.0 command answer above is.1, is.2)
-enough_held most (stage.Isolated old version) above none command answer new is = (is.0, isolated_answers most version old is.0 command answer above is.1, is.2)
+enough_held most (stage.Open old (Ordered version)) above none command answer new is = (is.0, beside_answers most version old is.0 command answer above is.1, is.2)
+enough_held most (stage.Open old (Isolated version)) above none command answer new is = (is.0, isolated_answers most version old is.0 command answer above is.1, is.2)
 enough_held most (stage.Strict old version) above none command answer new is = (is.0, strict_answers most version old is.0 command answer above is.1, is.2)

@@ -281,7 +281,7 @@ split_within parts most limit split = record { sessions = split.sessions; remain
 
 pub isolated_out_is_taken : GivenIsTaken → IsolatedOutIsTaken
 isolated_out_is_taken laws parts version limit given good split within is = record {
-  resumes = ((good.some_sessions, good.few_sessions, good.low_sessions), within, refl);
+  resumes = (((good.some_sessions, good.few_sessions, good.low_sessions), within), refl);
   taken = checkpoint_taken laws (bounded parts (most_sessions version) (2 * limit)) version good (split_within parts (most_sessions version) (2 * limit) split) refl given is;
   good = good_again (bounded parts (most_sessions version) (2 * limit)) good;
   same = parts_again (bounded parts (most_sessions version) (2 * limit));

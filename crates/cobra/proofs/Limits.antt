@@ -12,7 +12,7 @@ use Rattle.order_check.specs.StandsFor.{Joins, Returns, parts_after}
 use Rattle.logged_fragments.specs.declared.logged.LoggedFragment.{LoggedFragment}
 use Rattle.logged_fragments.specs.Effects.{effects}
 use Rattle.log_text.specs.declared.commands.Command.{Command}
-use Rattle.log_text.specs.declared.commands.Command.TheVariants.{Start, StartIsolated, StartStrict, Offer, OfferTimed, Join, Close, Begin, Finish, Round, BeginSearch, Collect, Skip, Truncate, Rebuild, Show, Resume, Marks, MarksBegun, Last, Resumed, Save, Answer}
+use Rattle.log_text.specs.declared.commands.Command.TheVariants.{Start, Offer, OfferTimed, Join, Close, Begin, Finish, Round, BeginSearch, Collect, Skip, Truncate, Rebuild, Show, Resume, Marks, MarksBegun, Last, Resumed, Save, Answer}
 use Rattle.log_text.specs.declared.commands.Effort.{Effort}
 use Rattle.log_text.specs.declared.replies.Reply.{Reply}
 use Rattle.log_text.specs.declared.replies.Reply.TheVariants as told
@@ -20,7 +20,8 @@ use Rattle.log_text.specs.declared.searches.Search.{Search}
 use Rattle.log_text.specs.declared.versions.Opening.{Opening}
 use Rattle.log_text.specs.declared.versions.Opening.TheVariants.{Ordered, Isolated}
 use Rattle.log_text.specs.declared.versions.Version.{Version}
-use Rattle.log_text.specs.Versions.{most_sessions}
+use Rattle.log_text.specs.declared.versions.Promise.TheVariants.{Resumable, Strict}
+use Rattle.log_text.specs.Versions.{most_sessions, version_of}
 use Rattle.round_state.specs.EngineState.{EngineState, engine_over}
 use Rattle.round_state.specs.Steps.{StepsTo}
 use Rattle.round_state.specs.declared.steps.Step.{Step}
@@ -29,10 +30,10 @@ use Rattle.round_state.specs.declared.steps.StepReply.{StepReply}
 use Rattle.round_state.specs.declared.steps.StepReply.TheVariants as reply
 use Rattle.isolation_scripts.specs.Handed.{half_command, half_marks}
 use Rattle.isolation_scripts.specs.Splitting.{split_command}
-use Rattle.cobra.specs.Audits.{AuditState, unsearched}
+use Rattle.cobra.specs.Audits.{AuditState}
 use Rattle.cobra.specs.HandOver.{handed_parts}
-use Rattle.cobra.specs.Limits.{BoundsStay, HasBoundsFor, IsLimitFor, KeepsBounds}
-use Rattle.cobra.specs.Scripts.{AnswersBeside, AnswersFirst, AnswersHanding, AnswersIsolated, AnswersOpen, AnswersResuming, AnswersStrict, BeginsAnew, EndsHandOver, EndsRound, Goes, GoesOn, HandsMarks, HandsOffer, HandsWriters, IsCollected, IsRound, IsStep, IsTakenIn, IsVersionLimit, Opens, OpensIsolated, OpensStrict, Resumes, TakesHalves, TakesMarks, TakesOver, opened, stage_after, version_of}
+use Rattle.cobra.specs.Limits.{BoundsStay, HasBoundsFor, IsRoomFor, KeepsBounds}
+use Rattle.cobra.specs.Scripts.{AnswersBeside, AnswersFirst, AnswersHanding, AnswersIn, AnswersIsolated, AnswersOpen, AnswersResuming, AnswersStrict, BeginsAnew, EndsHandOver, EndsRound, Goes, GoesOn, HandsMarks, HandsOffer, HandsWriters, IsCollected, IsRound, IsStep, IsTakenIn, MayRemain, Opens, OpensStrict, Resumes, TakesHalves, TakesMarks, TakesOver, stage_after}
 use Rattle.cobra.specs.Strict.{OffersStrictly, OffersTimed, spans_of}
 use Rattle.strict_histories.specs.declared.timed.Span.{Span}
 use Rattle.strict_offers.specs.Offers.{OfferedState}
@@ -143,37 +144,33 @@ beside_stays version old new command answer is = open_stays version old.engine n
 isolated_stays : (version : Version) (old new : AuditState) (command : Command) (answer : Reply) → AnswersIsolated version old command answer new → bounds_of new.engine ≡ bounds_of old.engine
 isolated_stays version old new command answer is = ⊎_elim (λ fault. quiet old new fault.3) (λ asked. beside_stays version old new (split_command command) asked.1 asked.2) is
 
+stays_in : (opening : Opening) (old new : AuditState) (command : Command) (answer : Reply) → AnswersIn opening old command answer new → bounds_of new.engine ≡ bounds_of old.engine
+stays_in (Ordered version) old new command answer is = beside_stays version old new command answer is
+stays_in (Isolated version) old new command answer is = isolated_stays version old new command answer is
+
 -- ---- how a script begins
 
 abbrev Has : Option Stage → Type 0
 Has begun = IfSome begun KeepsBounds
 
-opens : (sessions limit : ℕ) (version : Version) (answer : Reply) (begun : Option Stage) → Opens sessions limit version answer begun → Has begun
-opens sessions limit version told.Done begun is = subst Has (sym is.2) (refl, is.1)
-opens sessions limit version (told.No refusal) begun is = subst Has (sym is.1) tt
-opens sessions limit version answer begun is = absurd is
-
-opens_isolated : (sessions limit : ℕ) (version : Version) (answer : Reply) (begun : Option Stage) → OpensIsolated sessions limit version answer begun → Has begun
-opens_isolated sessions limit version told.Done begun is = subst Has (sym is.2) (refl, (limit, is.1, refl))
-opens_isolated sessions limit version (told.No refusal) begun is = subst Has (sym is.1) tt
-opens_isolated sessions limit version answer begun is = absurd is
+opens : (sessions limit : ℕ) (opening : Opening) (answer : Reply) (begun : Option Stage) → Opens sessions limit opening answer begun → Has begun
+opens sessions limit opening told.Done begun is = subst Has (sym is.1) (refl, (limit, is.0.1, refl))
+opens sessions limit opening (told.No refusal) begun is = subst Has (sym is.1) tt
+opens sessions limit opening answer begun is = absurd is
 
 opens_strict : (sessions limit : ℕ) (version : Version) (answer : Reply) (begun : Option Stage) → OpensStrict sessions limit version answer begun → Has begun
-opens_strict sessions limit version told.Done begun is = subst Has (sym is.2) (refl, is.1)
+opens_strict sessions limit version told.Done begun is = subst Has (sym is.1) (refl, is.0.1)
 opens_strict sessions limit version (told.No refusal) begun is = subst Has (sym is.1) tt
 opens_strict sessions limit version answer begun is = absurd is
 
 resumes : (sessions limit : ℕ) (opening : Opening) (answer : Reply) (begun : Option Stage) → Resumes sessions limit opening answer begun → Has begun
-resumes sessions limit (Ordered version) told.Done begun is = subst Has (sym is.2) is.1
-resumes sessions limit (Ordered version) (told.No refusal) begun is = subst Has (sym is.1) tt
-resumes sessions limit (Isolated version) told.Done begun is = subst Has (sym is.2) (limit, is.1, refl)
-resumes sessions limit (Isolated version) (told.No refusal) begun is = subst Has (sym is.1) tt
+resumes sessions limit opening told.Done begun is = subst Has (sym is.1) (limit, is.0.1, refl)
+resumes sessions limit opening (told.No refusal) begun is = subst Has (sym is.1) tt
 resumes sessions limit opening answer begun is = absurd is
 
 first_has : (command : Command) (answer : Reply) (begun : Option Stage) → AnswersFirst command answer begun → Has begun
-first_has (Start sessions limit version) answer begun is = opens sessions limit version answer begun is
-first_has (StartIsolated sessions limit version) answer begun is = opens_isolated sessions limit version answer begun is
-first_has (StartStrict sessions limit version) answer begun is = opens_strict sessions limit version answer begun is
+first_has (Start sessions limit (Resumable opening)) answer begun is = opens sessions limit opening answer begun is
+first_has (Start sessions limit (Strict version)) answer begun is = opens_strict sessions limit version answer begun is
 first_has (Resume sessions limit opening) answer begun is = resumes sessions limit opening answer begun is
 first_has command answer begun is = subst Has (sym is.1) tt
 
@@ -186,21 +183,21 @@ anew old new command answer is has = subst KeepsBounds (sym is.2) (after_has old
 
 -- ---- hand-overs
 
-hands_marks : (sessions limit : ℕ) (opening : Opening) (marks : List ℕ) (closed : List Bool) (answer : Reply) (new : Stage) → HandsMarks sessions limit opening marks closed answer new → IsLimitFor opening limit → KeepsBounds new
+hands_marks : (sessions limit : ℕ) (opening : Opening) (marks : List ℕ) (closed : List Bool) (answer : Reply) (new : Stage) → HandsMarks sessions limit opening marks closed answer new → IsRoomFor opening limit → KeepsBounds new
 hands_marks sessions limit opening marks closed told.Done new is has = subst KeepsBounds (sym is.1) (refl, has)
 hands_marks sessions limit opening marks closed (told.No refusal) new is has = subst KeepsBounds (sym is.1) has
 hands_marks sessions limit opening marks closed answer new is has = absurd is
 
-takes_marks : (sessions limit : ℕ) (opening : Opening) (command : Command) (answer : Reply) (new : Stage) → TakesMarks sessions limit opening command answer new → IsLimitFor opening limit → KeepsBounds new
+takes_marks : (sessions limit : ℕ) (opening : Opening) (command : Command) (answer : Reply) (new : Stage) → TakesMarks sessions limit opening command answer new → IsRoomFor opening limit → KeepsBounds new
 takes_marks sessions limit opening (Marks marks closed) answer new is has = hands_marks sessions limit opening marks closed answer new is has
 takes_marks sessions limit opening command answer new is has = anew (stage.Resuming sessions limit opening) new command answer is has
 
-takes_halves : (sessions limit : ℕ) (version : Version) (command : Command) (answer : Reply) (new : Stage) → TakesHalves sessions limit version command answer new → IsLimitFor (Isolated version) limit → KeepsBounds new
+takes_halves : (sessions limit : ℕ) (version : Version) (command : Command) (answer : Reply) (new : Stage) → TakesHalves sessions limit version command answer new → IsRoomFor (Isolated version) limit → KeepsBounds new
 takes_halves sessions limit version (MarksBegun marks closed begun) answer new is has =
     ⊎_elim (λ bad. subst KeepsBounds (sym bad.2) has) (λ halves. hands_marks sessions limit (Isolated version) (half_marks marks begun) closed answer new halves.1 has) is
 takes_halves sessions limit version command answer new is has = anew (stage.Resuming sessions limit (Isolated version)) new command answer is has
 
-resuming : (sessions limit : ℕ) (opening : Opening) (command : Command) (answer : Reply) (new : Stage) → AnswersResuming sessions limit opening command answer new → IsLimitFor opening limit → KeepsBounds new
+resuming : (sessions limit : ℕ) (opening : Opening) (command : Command) (answer : Reply) (new : Stage) → AnswersResuming sessions limit opening command answer new → IsRoomFor opening limit → KeepsBounds new
 resuming sessions limit (Ordered version) command answer new is has = takes_marks sessions limit (Ordered version) command answer new is has
 resuming sessions limit (Isolated version) command answer new is has = takes_halves sessions limit version command answer new is has
 
@@ -214,12 +211,8 @@ hands_offer handed opening fragment told.Done new is has = subst KeepsBounds (sy
 hands_offer handed opening fragment (told.No refusal) new is has = subst KeepsBounds (sym is.1) has
 hands_offer handed opening fragment answer new is has = absurd is
 
-opened_has : (opening : Opening) (audit : AuditState) → HasBoundsFor opening audit.engine.parts → KeepsBounds (opened opening audit)
-opened_has (Ordered version) audit has = has
-opened_has (Isolated version) audit has = has
-
 ends : (handed : Handing) (opening : Opening) (answer : Reply) (new : Stage) → EndsHandOver handed opening answer new → HasBoundsFor opening handed.parts → KeepsBounds new
-ends handed opening told.Done new is has = subst KeepsBounds (sym is.1) (opened_has opening (unsearched (engine_over (handed_parts handed))) has)
+ends handed opening told.Done new is has = subst KeepsBounds (sym is.1) has
 ends handed opening (told.No refusal) new is has = subst KeepsBounds (sym is.1) has
 ends handed opening answer new is has = absurd is
 
@@ -256,15 +249,13 @@ strict_stays version old new command answer is = ap offer_bounds is.1
 
 -- these are the bounds of what is opened for this
 abbrev AreFor : Opening → ℕ × ℕ → Type 0
-AreFor opening bounds = (bounds.0 ≡ most_sessions (version_of opening)) × IsLimitFor opening bounds.1
+AreFor opening bounds = (bounds.0 ≡ most_sessions (version_of opening)) × IsRoomFor opening bounds.1
 
 pub bounds_stay : BoundsStay
 bounds_stay stage.Nothing new command answer is has = anew stage.Nothing new command answer is has
 bounds_stay (stage.Resuming sessions limit opening) new command answer is has = resuming sessions limit opening command answer new is has
 bounds_stay (stage.Handing handed opening) new command answer is has = handing handed opening command answer new is has
-bounds_stay (stage.Open old version) new command answer is has =
-    subst KeepsBounds (sym is.2) (subst (λ (bounds : ℕ × ℕ). AreFor (Ordered version) bounds) (sym (beside_stays version old is.0 command answer is.1)) has)
-bounds_stay (stage.Isolated old version) new command answer is has =
-    subst KeepsBounds (sym is.2) (subst (λ (bounds : ℕ × ℕ). AreFor (Isolated version) bounds) (sym (isolated_stays version old is.0 command answer is.1)) has)
+bounds_stay (stage.Open old opening) new command answer is has =
+    subst KeepsBounds (sym is.2) (subst (λ (bounds : ℕ × ℕ). AreFor opening bounds) (sym (stays_in opening old is.0 command answer is.1)) has)
 bounds_stay (stage.Strict old version) new command answer is has =
-    subst KeepsBounds (sym is.2) (subst (λ (bounds : ℕ × ℕ). (bounds.0 ≡ most_sessions version) × IsVersionLimit version bounds.1) (sym (strict_stays version old is.0 command answer is.1)) has)
+    subst KeepsBounds (sym is.2) (subst (λ (bounds : ℕ × ℕ). (bounds.0 ≡ most_sessions version) × MayRemain (Ordered version) bounds.1) (sym (strict_stays version old is.0 command answer is.1)) has)

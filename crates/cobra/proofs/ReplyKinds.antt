@@ -5,7 +5,7 @@ use Rattle.order_check.specs.declared.remainder.Kind.{Kind}
 use Rattle.order_check.specs.declared.remainder.Kind.TheVariants as kinds
 use Rattle.order_check.specs.declared.remainder.Parts.{Parts}
 use Rattle.log_text.specs.declared.commands.Command.{Command}
-use Rattle.log_text.specs.declared.commands.Command.TheVariants.{Start, StartIsolated, StartStrict, Offer, OfferTimed, Join, Close, Begin, Finish, Round, BeginSearch, Collect, Skip, Truncate, Rebuild, Show, Resume, Marks, MarksBegun, Last, Resumed, Save, Answer}
+use Rattle.log_text.specs.declared.commands.Command.TheVariants.{Start, Offer, OfferTimed, Join, Close, Begin, Finish, Round, BeginSearch, Collect, Skip, Truncate, Rebuild, Show, Resume, Marks, MarksBegun, Last, Resumed, Save, Answer}
 use Rattle.log_text.specs.declared.replies.Reply.{Reply}
 use Rattle.log_text.specs.declared.replies.Reply.TheVariants as told
 use Rattle.log_text.specs.Replies.{HasKindOfOrder}
@@ -32,6 +32,7 @@ use Rattle.log_text.specs.declared.saved.Saved.TheVariants as saved
 use Rattle.log_text.specs.declared.searches.Search.{Search}
 use Rattle.log_text.specs.declared.versions.Opening.{Opening}
 use Rattle.log_text.specs.declared.versions.Opening.TheVariants.{Ordered, Isolated}
+use Rattle.log_text.specs.declared.versions.Promise.TheVariants.{Resumable, Strict}
 use Rattle.log_text.specs.declared.versions.Version.{Version}
 use Rattle.log_text.specs.declared.versions.Version.TheVariants.{One}
 use Rattle.logged_fragments.specs.declared.logged.LoggedFragment.{LoggedFragment}
@@ -43,7 +44,7 @@ use Rattle.cobra.specs.Audits.{AuditState}
 use Rattle.cobra.specs.declared.handing.Handing.{Handing}
 use Rattle.cobra.specs.declared.stages.Stage.{Stage}
 use Rattle.cobra.specs.declared.stages.Stage.TheVariants as stage
-use Rattle.cobra.specs.Scripts.{IsBadLine, Goes, EndsRound, IsRound, IsStep, IsTakenIn, AnswersOpen, AnswersBeside, AnswersIsolated, AnswersStrict, GoesOn, IsCollected, Opens, OpensIsolated, OpensStrict, RoundsStrictly, Resumes, AnswersFirst, BeginsAnew, HandsMarks, AnswersResuming, HandsWriters, HandsOffer, EndsHandOver, AnswersHanding, Answers, TakesHalves, TakesMarks, TakesOver}
+use Rattle.cobra.specs.Scripts.{IsBadLine, Goes, EndsRound, IsRound, IsStep, IsTakenIn, AnswersOpen, AnswersBeside, AnswersIsolated, AnswersStrict, GoesOn, IsCollected, Opens, OpensStrict, RoundsStrictly, Resumes, AnswersFirst, BeginsAnew, HandsMarks, AnswersResuming, HandsWriters, HandsOffer, EndsHandOver, AnswersHanding, Answers, TakesHalves, TakesMarks, TakesOver}
 use Rattle.cobra.specs.StepReplies.{claim_of, certified, report_of, reply_of}
 use Rattle.cobra.specs.Strict.{OffersStrictly, OffersTimed, spans_of}
 use Rattle.strict_histories.specs.declared.timed.Span.{Span}
@@ -125,8 +126,6 @@ open_kind version old new Show answer is = subst HasKindOfOrder (sym is.0) tt
 open_kind version old new (Close session) answer is = told_kind is.0 answer is.2 (step_kind old new (step.Close session) is.0 is.1)
 open_kind version old new (Save wanted) answer is = subst HasKindOfOrder (sym is.0) (saved_kind old.parts wanted)
 open_kind version old new (Start sessions limit begun) answer is = bad_line_kind old new answer is
-open_kind version old new (StartIsolated sessions limit begun) answer is = bad_line_kind old new answer is
-open_kind version old new (StartStrict sessions limit begun) answer is = bad_line_kind old new answer is
 open_kind version old new (OfferTimed logged began ended) answer is = bad_line_kind old new answer is
 open_kind version old new (Resume sessions limit begun) answer is = bad_line_kind old new answer is
 open_kind version old new (Marks marks closed) answer is = bad_line_kind old new answer is
@@ -168,11 +167,11 @@ beside_kind version old new (Finish budget depth workers search) answer is = fin
 beside_kind version old new command answer is = open_kind version old.engine new.engine command answer is.0
 
 isolated_kind : (reply : Reply) → HasKindOfOrder reply → HasKindOfOrder (isolated_of reply)
-isolated_kind (told.Order round kinds.Serial counts order) of = tt
-isolated_kind (told.Order round kinds.Pending counts order) of = tt
-isolated_kind (told.Order round kinds.Violated counts order) of = absurd of
-isolated_kind (told.Order round kinds.Spent counts order) of = absurd of
-isolated_kind (told.Violated round counts tree) of = tt
+isolated_kind (told.Order names round kinds.Serial counts order) of = tt
+isolated_kind (told.Order names round kinds.Pending counts order) of = tt
+isolated_kind (told.Order names round kinds.Violated counts order) of = absurd of
+isolated_kind (told.Order names round kinds.Spent counts order) of = absurd of
+isolated_kind (told.Violated names round counts tree) of = tt
 isolated_kind (told.Spent round counts) of = tt
 isolated_kind (told.Cut fence gone last) of = tt
 isolated_kind (told.Show marks received closed last remaining) of = tt
@@ -215,15 +214,10 @@ strict_kind version old new (OfferTimed logged began ended) answer is = taken_ki
 strict_kind version old new (Round budget depth workers search) answer is = strict_round_kind old new search budget depth workers answer is
 strict_kind version old new command answer is = subst HasKindOfOrder (sym is.0) tt
 
-opens_isolated_kind : (sessions limit : ℕ) (version : Version) (answer : Reply) (begun : Option Stage) → OpensIsolated sessions limit version answer begun → HasKindOfOrder answer
-opens_isolated_kind sessions limit version told.Done begun is = tt
-opens_isolated_kind sessions limit version (told.No refusal) begun is = tt
-opens_isolated_kind sessions limit version answer begun is = absurd is
-
-opens_kind : (sessions limit : ℕ) (version : Version) (answer : Reply) (begun : Option Stage) → Opens sessions limit version answer begun → HasKindOfOrder answer
-opens_kind sessions limit version told.Done begun is = tt
-opens_kind sessions limit version (told.No refusal) begun is = tt
-opens_kind sessions limit version answer begun is = absurd is
+opens_kind : (sessions limit : ℕ) (opening : Opening) (answer : Reply) (begun : Option Stage) → Opens sessions limit opening answer begun → HasKindOfOrder answer
+opens_kind sessions limit opening told.Done begun is = tt
+opens_kind sessions limit opening (told.No refusal) begun is = tt
+opens_kind sessions limit opening answer begun is = absurd is
 
 opens_strict_kind : (sessions limit : ℕ) (version : Version) (answer : Reply) (begun : Option Stage) → OpensStrict sessions limit version answer begun → HasKindOfOrder answer
 opens_strict_kind sessions limit version told.Done begun is = tt
@@ -231,17 +225,13 @@ opens_strict_kind sessions limit version (told.No refusal) begun is = tt
 opens_strict_kind sessions limit version answer begun is = absurd is
 
 resumes_kind : (sessions limit : ℕ) (opening : Opening) (answer : Reply) (begun : Option Stage) → Resumes sessions limit opening answer begun → HasKindOfOrder answer
-resumes_kind sessions limit (Ordered version) told.Done begun is = tt
-resumes_kind sessions limit (Ordered version) (told.No refusal) begun is = tt
-resumes_kind sessions limit (Ordered version) answer begun is = absurd is
-resumes_kind sessions limit (Isolated version) told.Done begun is = tt
-resumes_kind sessions limit (Isolated version) (told.No refusal) begun is = tt
-resumes_kind sessions limit (Isolated version) answer begun is = absurd is
+resumes_kind sessions limit opening told.Done begun is = tt
+resumes_kind sessions limit opening (told.No refusal) begun is = tt
+resumes_kind sessions limit opening answer begun is = absurd is
 
 first_kind : (command : Command) (answer : Reply) (begun : Option Stage) → AnswersFirst command answer begun → HasKindOfOrder answer
-first_kind (Start sessions limit version) answer begun is = opens_kind sessions limit version answer begun is
-first_kind (StartIsolated sessions limit version) answer begun is = opens_isolated_kind sessions limit version answer begun is
-first_kind (StartStrict sessions limit version) answer begun is = opens_strict_kind sessions limit version answer begun is
+first_kind (Start sessions limit (Resumable opening)) answer begun is = opens_kind sessions limit opening answer begun is
+first_kind (Start sessions limit (Strict version)) answer begun is = opens_strict_kind sessions limit version answer begun is
 first_kind (Resume sessions limit opening) answer begun is = resumes_kind sessions limit opening answer begun is
 first_kind command answer begun is = subst HasKindOfOrder (sym is.0) tt
 
@@ -296,6 +286,6 @@ pub answer_kind : (old : Stage) (command : Command) (answer : Reply) (new : Stag
 answer_kind stage.Nothing command answer new is = anew_kind stage.Nothing command answer new is
 answer_kind (stage.Resuming sessions limit opening) command answer new is = resuming_kind sessions limit opening command answer new is
 answer_kind (stage.Handing handed opening) command answer new is = handing_kind handed opening command answer new is
-answer_kind (stage.Open old version) command answer new is = beside_kind version old is.0 command answer is.1
-answer_kind (stage.Isolated old version) command answer new is = isolates_kind version old is.0 command answer is.1
+answer_kind (stage.Open old (Ordered version)) command answer new is = beside_kind version old is.0 command answer is.1
+answer_kind (stage.Open old (Isolated version)) command answer new is = isolates_kind version old is.0 command answer is.1
 answer_kind (stage.Strict old version) command answer new is = strict_kind version old is.0 command answer is.1

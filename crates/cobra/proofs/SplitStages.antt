@@ -10,7 +10,7 @@ use Rattle.txn.specs.History.{session_of}
 use Rattle.logged_fragments.specs.declared.logged.LoggedFragment.{LoggedFragment}
 use Rattle.order_check.specs.declared.remainder.Parts.{Parts}
 use Rattle.log_text.specs.declared.commands.Command.{Command}
-use Rattle.log_text.specs.declared.commands.Command.TheVariants.{Start, StartIsolated, StartStrict, Offer, OfferTimed, Join, Close, Begin, Finish, Round, BeginSearch, Collect, Skip, Truncate, Rebuild, Show, Resume, Marks, MarksBegun, Last, Resumed, Save, Answer}
+use Rattle.log_text.specs.declared.commands.Command.TheVariants.{Start, Offer, OfferTimed, Join, Close, Begin, Finish, Round, BeginSearch, Collect, Skip, Truncate, Rebuild, Show, Resume, Marks, MarksBegun, Last, Resumed, Save, Answer}
 use Rattle.log_text.specs.declared.replies.Reply.{Reply}
 use Rattle.log_text.specs.declared.replies.Reply.TheVariants as told
 use Rattle.log_text.specs.declared.searches.Search.{Search}
@@ -107,8 +107,6 @@ module _ (stays : SplitEnginesStay) (version : Version) where
   open_stays old new Show answer can is split = same old new is.1 split
   open_stays old new (Save wanted) answer can is split = same old new is.1 split
   open_stays old new (Start sessions limit begun) answer can is split = same old new is.1 split
-  open_stays old new (StartIsolated sessions limit begun) answer can is split = same old new is.1 split
-  open_stays old new (StartStrict sessions limit begun) answer can is split = same old new is.1 split
   open_stays old new (OfferTimed logged began ended) answer can is split = same old new is.1 split
   open_stays old new (Resume sessions limit opening) answer can is split = same old new is.1 split
   open_stays old new (Marks marks closed) answer can is split = same old new is.1 split

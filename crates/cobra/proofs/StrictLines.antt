@@ -6,12 +6,13 @@ use Rattle.txn.specs.declared.refusals.Refusal.TheVariants.{BadLine, BadParts, N
 use Rattle.txn.specs.declared.transactions.TxnId.{TxnId}
 use Rattle.txn.specs.declared.transactions.Fragment.{Fragment}
 use Rattle.log_text.specs.declared.commands.Command.{Command}
-use Rattle.log_text.specs.declared.commands.Command.TheVariants.{Start, StartIsolated, StartStrict, Offer, Resume, Marks, MarksBegun, Last, Resumed}
+use Rattle.log_text.specs.declared.commands.Command.TheVariants.{Start, Offer, Resume, Marks, MarksBegun, Last, Resumed}
 use Rattle.log_text.specs.declared.replies.Reply.{Reply}
 use Rattle.log_text.specs.declared.replies.Reply.TheVariants as told
 use Rattle.log_text.specs.declared.versions.Version.{Version}
 use Rattle.log_text.specs.declared.versions.Opening.{Opening}
 use Rattle.log_text.specs.declared.versions.Opening.TheVariants.{Ordered, Isolated}
+use Rattle.log_text.specs.declared.versions.Promise.TheVariants.{Resumable, Strict}
 use Rattle.log_text.specs.Versions.{most_sessions}
 use Rattle.isolation_scripts.specs.Handed.{CanBeHanded, half_command, half_marks}
 use Rattle.isolation_scripts.specs.Isolated.{isolated_of}
@@ -19,7 +20,7 @@ use Rattle.strict_histories.specs.Strict.{TimedHistory}
 use Rattle.strict_offers.specs.Laws.{OffersStayGood}
 use Rattle.strict_offers.specs.Offers.{OfferedState, AreGoodOffers, nothing_offered}
 use Rattle.cobra.specs.Audits.{AuditState}
-use Rattle.cobra.specs.Scripts.{Answers, AnswersBeside, AnswersFirst, AnswersHanding, AnswersIsolated, AnswersResuming, BeginsAnew, HandsMarks, HandsOffer, TakesHalves, TakesMarks, TakesOver, opened, stage_after}
+use Rattle.cobra.specs.Scripts.{Answers, AnswersBeside, AnswersFirst, AnswersHanding, AnswersIn, AnswersIsolated, AnswersResuming, BeginsAnew, HandsMarks, HandsOffer, TakesHalves, TakesMarks, TakesOver, stage_after}
 use Rattle.cobra.specs.StrictReports.{timed_after}
 use Rattle.cobra.specs.declared.handing.Handing.{Handing}
 use Rattle.cobra.specs.declared.stages.Stage.{Stage}
@@ -47,22 +48,16 @@ along : (old : Stage) (command : Command) (answer : Reply) (begun is : Option St
 along old command answer begun is same fits = subst (λ (o : Option Stage). Begun old command answer o) (sym same) fits
 
 first_fits : OffersStayGood → (old : Stage) (command : Command) (answer : Reply) (begun : Option Stage) → FitsStrictly old None → AnswersFirst command answer begun → Begun old command answer begun
-first_fits stay old (StartStrict sessions limit version) told.Done begun none first =
-    along old (StartStrict sessions limit version) told.Done begun _ first.2 (refl, stay.opened (most_sessions version) sessions limit (version_bounds version sessions limit first.0 first.1))
-first_fits stay old (StartStrict sessions limit version) (told.No refusal) begun none first = along old (StartStrict sessions limit version) (told.No refusal) begun None first.1 none
-first_fits stay old (StartStrict sessions limit version) answer begun none first = absurd first
-first_fits stay old (Start sessions limit version) told.Done begun none first = along old (Start sessions limit version) told.Done begun _ first.2 tt
-first_fits stay old (Start sessions limit version) (told.No refusal) begun none first = along old (Start sessions limit version) (told.No refusal) begun None first.1 none
-first_fits stay old (Start sessions limit version) answer begun none first = absurd first
-first_fits stay old (StartIsolated sessions limit version) told.Done begun none first = along old (StartIsolated sessions limit version) told.Done begun _ first.2 tt
-first_fits stay old (StartIsolated sessions limit version) (told.No refusal) begun none first = along old (StartIsolated sessions limit version) (told.No refusal) begun None first.1 none
-first_fits stay old (StartIsolated sessions limit version) answer begun none first = absurd first
-first_fits stay old (Resume sessions limit (Ordered version)) told.Done begun none first = along old (Resume sessions limit (Ordered version)) told.Done begun _ first.2 tt
-first_fits stay old (Resume sessions limit (Ordered version)) (told.No refusal) begun none first = along old (Resume sessions limit (Ordered version)) (told.No refusal) begun None first.1 none
-first_fits stay old (Resume sessions limit (Ordered version)) answer begun none first = absurd first
-first_fits stay old (Resume sessions limit (Isolated version)) told.Done begun none first = along old (Resume sessions limit (Isolated version)) told.Done begun _ first.2 tt
-first_fits stay old (Resume sessions limit (Isolated version)) (told.No refusal) begun none first = along old (Resume sessions limit (Isolated version)) (told.No refusal) begun None first.1 none
-first_fits stay old (Resume sessions limit (Isolated version)) answer begun none first = absurd first
+first_fits stay old (Start sessions limit (Strict version)) told.Done begun none first =
+    along old (Start sessions limit (Strict version)) told.Done begun _ first.1 (refl, stay.opened (most_sessions version) sessions limit (version_bounds version sessions limit first.0))
+first_fits stay old (Start sessions limit (Strict version)) (told.No refusal) begun none first = along old (Start sessions limit (Strict version)) (told.No refusal) begun None first.1 none
+first_fits stay old (Start sessions limit (Strict version)) answer begun none first = absurd first
+first_fits stay old (Start sessions limit (Resumable opening)) told.Done begun none first = along old (Start sessions limit (Resumable opening)) told.Done begun _ first.1 tt
+first_fits stay old (Start sessions limit (Resumable opening)) (told.No refusal) begun none first = along old (Start sessions limit (Resumable opening)) (told.No refusal) begun None first.1 none
+first_fits stay old (Start sessions limit (Resumable opening)) answer begun none first = absurd first
+first_fits stay old (Resume sessions limit opening) told.Done begun none first = along old (Resume sessions limit opening) told.Done begun _ first.1 tt
+first_fits stay old (Resume sessions limit opening) (told.No refusal) begun none first = along old (Resume sessions limit opening) (told.No refusal) begun None first.1 none
+first_fits stay old (Resume sessions limit opening) answer begun none first = absurd first
 first_fits stay old command answer begun none first = along old command answer begun None first.1 none
 
 anew_fits : OffersStayGood → (old new : Stage) (command : Command) (answer : Reply) → FitsStrictly old None → BeginsAnew old command answer new → FitsStrictly new (timed_after None command answer)
@@ -95,17 +90,13 @@ hands_fit handed opening fragment told.Done new is = still new _ is.1 tt
 hands_fit handed opening fragment (told.No refusal) new is = still new _ is.1 tt
 hands_fit handed opening fragment answer new is = absurd is
 
-opened_fits : (opening : Opening) (audit : AuditState) → FitsStrictly (opened opening audit) None
-opened_fits (Ordered version) audit = tt
-opened_fits (Isolated version) audit = tt
-
 takes_over_fit : OffersStayGood → (handed : Handing) (opening : Opening) (new : Stage) (command : Command) (answer : Reply) → TakesOver handed opening command answer new → FitsStrictly new (timed_after None command answer)
 takes_over_fit stay handed opening new (Last more) told.Done is = still new _ is tt
 takes_over_fit stay handed opening new (Last more) (told.No NoMemory) is = still new _ is tt
 takes_over_fit stay handed opening new (Last more) answer is = absurd is
 takes_over_fit stay handed opening new (Offer logged) answer is =
     ⊎_elim (λ taken. hands_fit handed opening logged.fragment answer new taken.1) (λ bad. still new (stage.Handing handed opening) bad.1.1 tt) is
-takes_over_fit stay handed opening new Resumed told.Done is = still new _ is.1 (opened_fits opening _)
+takes_over_fit stay handed opening new Resumed told.Done is = still new _ is.1 tt
 takes_over_fit stay handed opening new Resumed (told.No refusal) is = still new _ is.1 tt
 takes_over_fit stay handed opening new Resumed answer is = absurd is
 takes_over_fit stay handed opening new command answer is = anew_fits stay (stage.Handing handed opening) new command answer tt is
@@ -116,7 +107,7 @@ halves_after handed (Offer logged) answer = refl
 halves_after handed command answer = refl
 
 refused : (command : Command) (refusal : Refusal) → OpensNone command (told.No refusal)
-refused (StartStrict sessions limit version) refusal = refl
+refused (Start sessions limit (Strict version)) refusal = refl
 refused command refusal = refl
 
 handing_fits : OffersStayGood → (handed : Handing) (opening : Opening) (new : Stage) (command : Command) (answer : Reply) → AnswersHanding handed opening command answer new → FitsStrictly new (timed_after None command answer)
@@ -128,13 +119,17 @@ handing_fits stay handed (Isolated version) new command answer is =
 
 -- none begins where an engine is open
 engine_opens : (old new : AuditState) (version : Version) (command : Command) (answer : Reply) → AnswersBeside version old command answer new → OpensNone command answer
-engine_opens old new version (StartStrict sessions limit begun) answer is = ap (timed_after None (StartStrict sessions limit begun)) is.0.0
+engine_opens old new version (Start sessions limit (Strict begun)) answer is = ap (timed_after None (Start sessions limit (Strict begun))) is.0.0
 engine_opens old new version command answer is = refl
 
 isolated_opens : (old new : AuditState) (version : Version) (command : Command) (answer : Reply) → AnswersIsolated version old command answer new → OpensNone command answer
-isolated_opens old new version (StartStrict sessions limit begun) answer is =
-    ⊎_elim (λ fault. absurd fault.1) (λ split. ap (timed_after None (StartStrict sessions limit begun)) (split.3 ∙ ap isolated_of split.2.0.0)) is
+isolated_opens old new version (Start sessions limit (Strict begun)) answer is =
+    ⊎_elim (λ fault. absurd fault.1) (λ split. ap (timed_after None (Start sessions limit (Strict begun))) (split.3 ∙ ap isolated_of split.2.0.0)) is
 isolated_opens old new version command answer is = refl
+
+opens_in : (opening : Opening) (old new : AuditState) (command : Command) (answer : Reply) → AnswersIn opening old command answer new → OpensNone command answer
+opens_in (Ordered version) old new command answer is = engine_opens old new version command answer is
+opens_in (Isolated version) old new command answer is = isolated_opens old new version command answer is
 
 -- a script that isn't asked for it stays so, unless one is opened
 pub other_fits : OffersStayGood → (old new : Stage) (command : Command) (answer : Reply) → Answers old command answer new → FitsStrictly old None → FitsStrictly new (timed_after None command answer)
@@ -142,5 +137,4 @@ other_fits stay (stage.Strict offered version) new command answer is fits = absu
 other_fits stay stage.Nothing new command answer is fits = anew_fits stay stage.Nothing new command answer tt is
 other_fits stay (stage.Resuming sessions limit opening) new command answer is fits = resuming_fits stay sessions limit opening new command answer is
 other_fits stay (stage.Handing handed opening) new command answer is fits = handing_fits stay handed opening new command answer is
-other_fits stay (stage.Open old version) new command answer is fits = none_opened new command answer (still new (stage.Open is.0 version) is.2 tt) (engine_opens old is.0 version command answer is.1)
-other_fits stay (stage.Isolated old version) new command answer is fits = none_opened new command answer (still new (stage.Isolated is.0 version) is.2 tt) (isolated_opens old is.0 version command answer is.1)
+other_fits stay (stage.Open old opening) new command answer is fits = none_opened new command answer (still new (stage.Open is.0 opening) is.2 tt) (opens_in opening old is.0 command answer is.1)

@@ -10,7 +10,7 @@ use Rattle.logged_fragments.specs.declared.logged.LoggedFragment.{LoggedFragment
 use Rattle.order_check.specs.declared.remainder.Kind.{Kind}
 use Rattle.order_check.specs.declared.remainder.Kind.TheVariants as kinds
 use Rattle.log_text.specs.declared.commands.Command.{Command}
-use Rattle.log_text.specs.declared.commands.Command.TheVariants.{Start, StartIsolated, StartStrict, Offer, OfferTimed, Resume, Round, Marks, MarksBegun, Last, Resumed}
+use Rattle.log_text.specs.declared.commands.Command.TheVariants.{Start, Offer, OfferTimed, Resume, Round, Marks, MarksBegun, Last, Resumed}
 use Rattle.log_text.specs.declared.replies.Reply.{Reply}
 use Rattle.log_text.specs.declared.replies.Reply.TheVariants as told
 use Rattle.log_text.specs.declared.searches.Search.{Search}
@@ -32,7 +32,7 @@ use Rattle.strict_offers.specs.Offers.{OfferedState, AreBounds, AreGoodOffers, n
 use Rattle.strict_rounds.specs.Laws.{RightReportsAreStrict}
 use Rattle.strict_rounds.specs.Reports.{IsStrictKind, IsStrictReport, ShowsStrictly}
 use Rattle.cobra.specs.Outputs.{RepliesAll}
-use Rattle.cobra.specs.Scripts.{AreVersionSessions, Answers, AnswersFirst, AnswersStrict, EndsRound, IsRound, IsVersionLimit, RoundsStrictly}
+use Rattle.cobra.specs.Scripts.{Answers, AnswersFirst, AnswersStrict, EndsRound, IsRound, RoundsStrictly}
 use Rattle.cobra.specs.Strict.{OffersStrictly, OffersTimed, spans_of}
 use Rattle.cobra.specs.StepReplies.{certified}
 use Rattle.cobra.specs.StrictReports.{AreStrictReplies, EachStrictReportIsTrue, IsKeptStrictly, IsStrictTold, TellsStrictly, timed_after}
@@ -157,7 +157,6 @@ answers_strictly stay law stage.Nothing new (Some timed) command answer is fits 
 answers_strictly stay law (stage.Resuming sessions limit opening) new (Some timed) command answer is fits = absurd fits
 answers_strictly stay law (stage.Handing handed opening) new (Some timed) command answer is fits = absurd fits
 answers_strictly stay law (stage.Open audit version) new (Some timed) command answer is fits = absurd fits
-answers_strictly stay law (stage.Isolated audit version) new (Some timed) command answer is fits = absurd fits
 answers_strictly stay law old new None command answer is fits = record { is_true = tt; fits = other_fits stay old new command answer is fits }
 
 kept_strictly : (old : Stage) (timed : Option TimedHistory) → FitsStrictly old timed → IsKeptStrictly old timed
@@ -167,12 +166,10 @@ kept_strictly stage.Nothing None fits = refl
 kept_strictly (stage.Resuming sessions limit opening) None fits = refl
 kept_strictly (stage.Handing handed opening) None fits = refl
 kept_strictly (stage.Open audit version) None fits = refl
-kept_strictly (stage.Isolated audit version) None fits = refl
 kept_strictly stage.Nothing (Some timed) fits = absurd fits
 kept_strictly (stage.Resuming sessions limit opening) (Some timed) fits = absurd fits
 kept_strictly (stage.Handing handed opening) (Some timed) fits = absurd fits
 kept_strictly (stage.Open audit version) (Some timed) fits = absurd fits
-kept_strictly (stage.Isolated audit version) (Some timed) fits = absurd fits
 
 all_strict : OffersStayGood → RightReportsAreStrict → (old new : Stage) (timed : Option TimedHistory) (lines texts : List (List ℕ)) (all : RepliesAll old lines texts new) → FitsStrictly old timed → AreStrictReplies old timed lines (replies_in old new lines texts all) new
 all_strict stay law old new timed [] [] all fits = (all, kept_strictly old timed fits)

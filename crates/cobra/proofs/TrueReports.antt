@@ -17,15 +17,17 @@ use Rattle.order_check.specs.declared.remainder.Parts.{Parts}
 use Rattle.order_check.specs.StandsFor.{StandsFor, history_after, with_fragment}
 use Rattle.order_check.specs.Whole.{ExplainsWhole}
 use Rattle.log_text.specs.declared.commands.Command.{Command}
-use Rattle.log_text.specs.declared.commands.Command.TheVariants.{Start, StartIsolated, StartStrict, Offer, OfferTimed, Join, Close, Begin, Finish, Round, BeginSearch, Collect, Skip, Truncate, Rebuild, Show, Resume, Marks, MarksBegun, Last, Resumed, Save, Answer}
+use Rattle.log_text.specs.declared.commands.Command.TheVariants.{Start, Offer, OfferTimed, Join, Close, Begin, Finish, Round, BeginSearch, Collect, Skip, Truncate, Rebuild, Show, Resume, Marks, MarksBegun, Last, Resumed, Save, Answer}
 use Rattle.log_text.specs.declared.commands.Wanted.{Wanted}
 use Rattle.log_text.specs.declared.commands.Wanted.TheVariants as wanted
+use Rattle.log_text.specs.declared.names.Names.TheVariants.{Ids, Events}
 use Rattle.log_text.specs.declared.replies.Reply.{Reply}
 use Rattle.log_text.specs.declared.replies.Reply.TheVariants as told
 use Rattle.log_text.specs.declared.saved.Saved.TheVariants as saved
 use Rattle.log_text.specs.declared.searches.Search.{Search}
 use Rattle.log_text.specs.declared.versions.Opening.{Opening}
 use Rattle.log_text.specs.declared.versions.Opening.TheVariants.{Ordered, Isolated}
+use Rattle.log_text.specs.declared.versions.Promise.TheVariants.{Resumable, Strict}
 use Rattle.log_text.specs.declared.versions.Version.{Version}
 use Rattle.log_text.specs.Replies.{line_of}
 use Rattle.log_text.specs.Versions.{most_sessions}
@@ -70,9 +72,9 @@ use Rattle.cobra.specs.Audits.{AuditState}
 use Rattle.cobra.specs.HandOver.{handed_parts}
 use Rattle.cobra.specs.Outputs.{RepliesAll}
 use Rattle.cobra.specs.Saving.{saved_told, fragment_told}
-use Rattle.cobra.specs.Scripts.{IsBadLine, IsTakenIn, Goes, IsStep, EndsRound, IsRound, AnswersOpen, AnswersBeside, AnswersIsolated, AnswersStrict, GoesOn, IsCollected, state_told, AnswersFirst, BeginsAnew, AnswersResuming, AnswersHanding, HandsMarks, HandsOffer, EndsHandOver, Answers, TakesHalves, TakesMarks, TakesOver, stage_after}
+use Rattle.cobra.specs.Scripts.{IsBadLine, IsTakenIn, Goes, IsStep, EndsRound, IsRound, AnswersOpen, AnswersBeside, AnswersIsolated, AnswersStrict, GoesOn, IsCollected, state_told, AnswersFirst, BeginsAnew, AnswersResuming, AnswersHanding, HandsMarks, HandsOffer, EndsHandOver, Answers, TakesHalves, TakesMarks, TakesOver, opened_engine, opened_state, stage_after}
 use Rattle.cobra.specs.StepReplies.{claim_of, certified, reply_of}
-use Rattle.cobra.specs.TrueReports.{Accepted, Origin, accepted_more, accepted_after, moved, reported_on, state_of, TellsTrueOf, TellsIsolation, MovesTxns, MovesHalves, IsKept, IsKeptSplit, IsTrueTold, BeginsWith, AreTrueReplies, EachReportIsTrue}
+use Rattle.cobra.specs.TrueReports.{Accepted, Origin, accepted_more, accepted_after, moved, nothing_accepted, reported_on, state_of, TellsTrueOf, TellsIsolation, MovesTxns, MovesHalves, IsKept, IsKeptSplit, IsTrueTold, BeginsWith, AreTrueReplies, EachReportIsTrue}
 use Rattle.cobra.specs.declared.handing.Handing.{Handing}
 use Rattle.cobra.specs.declared.stages.Stage.{Stage}
 use Rattle.cobra.specs.declared.stages.Stage.TheVariants as stage
@@ -97,12 +99,15 @@ pub record Wholes : Type 0 where
   pub past : StepsHoldBehind
   pub orders : ReportedOrdersStandBehind
 
+-- by what the script is opened for
+abbrev StandsIn : Opening → EngineState → Accepted → Type 0
+StandsIn (Ordered version) engine accepted = Stands engine accepted
+StandsIn (Isolated version) engine accepted = StandsSplit engine accepted
+
 -- Where an engine is open it stands for what was accepted; else nothing was.
 abbrev Fits : Stage → Option Accepted → Type 0
-Fits (stage.Open audit version) (Some accepted) = Stands audit.engine accepted
-Fits (stage.Open audit version) None = ⊥
-Fits (stage.Isolated audit version) (Some accepted) = StandsSplit audit.engine accepted
-Fits (stage.Isolated audit version) None = ⊥
+Fits (stage.Open audit opening) (Some accepted) = StandsIn opening audit.engine accepted
+Fits (stage.Open audit opening) None = ⊥
 Fits stage.Nothing None = ⊤
 Fits (stage.Strict offered version) None = ⊤
 Fits (stage.Resuming sessions limit opening) None = ⊤
@@ -406,8 +411,6 @@ open_on w version old new accepted Show answer is holds = subst (λ (a : Reply).
 open_on w version old new accepted (Save wanted) answer is holds =
     subst (λ (a : Reply). IsOn accepted (Save wanted) a new) (sym is.0) (quietly accepted (Save wanted) (saved_told old.parts wanted) new (saved_true accepted.left accepted.past accepted.asked old.parts wanted) (saved_moves old.parts wanted) (same_on old new accepted is.1 holds))
 open_on w version old new accepted (Start sessions limit other) answer is holds = bad_on old new accepted (Start sessions limit other) answer is holds
-open_on w version old new accepted (StartIsolated sessions limit other) answer is holds = bad_on old new accepted (StartIsolated sessions limit other) answer is holds
-open_on w version old new accepted (StartStrict sessions limit other) answer is holds = bad_on old new accepted (StartStrict sessions limit other) answer is holds
 open_on w version old new accepted (OfferTimed logged began ended) answer is holds = bad_on old new accepted (OfferTimed logged began ended) answer is holds
 open_on w version old new accepted (Resume sessions limit other) answer is holds = bad_on old new accepted (Resume sessions limit other) answer is holds
 open_on w version old new accepted (Marks marks closed) answer is holds = bad_on old new accepted (Marks marks closed) answer is holds
@@ -507,12 +510,10 @@ isolated_quietly accepted command answer new is_true moves holds = record {
 
 split_moves : CommittedAreOfCommits → (left : Bool) (past : Option (List TxnId)) (history : History) (inner : Reply) (ahead : List TxnId) → TellsTrueOf left past history inner → MovesTxns inner ahead → MovesHalves (isolated_of inner) ahead
 split_moves committed_has left past history (told.Cut fence gone last) ahead tells moves = λ id. (λ has. (committed_has gone id).0 ((moves (commit_half id)).0 has), λ has. (moves (commit_half id)).1 ((committed_has gone id).1 has))
-split_moves committed_has left past history (told.Order round kind counts order) ahead tells moves = moves
-split_moves committed_has left past history (told.Violated round counts tree) ahead tells moves = moves
+split_moves committed_has left past history (told.Order names round kind counts order) ahead tells moves = moves
+split_moves committed_has left past history (told.Violated names round counts tree) ahead tells moves = moves
 split_moves committed_has left past history (told.Spent round counts) ahead tells moves = moves
 split_moves committed_has left past history (told.Show marks received closed last remaining) ahead tells moves = moves
-split_moves committed_has left past history (told.Events round kind counts order) ahead tells moves = absurd tells
-split_moves committed_has left past history (told.Broken round counts tree) ahead tells moves = absurd tells
 split_moves committed_has left past history inner ahead tells moves = moves
 
 halved_counts : SplitDoublesCounts → HalvedCountsAreWhole → (history : History) (counts : List ℕ) → counts ≡ map length (split_history history) → halved counts ≡ map length history
@@ -533,18 +534,18 @@ kept_behind isolate history gone order h = subst (IsSnapshotOrder history) (map-
 
 -- what is true of the split history is told of the history
 isolated_true : Laws → (left : Bool) (past : Option (List TxnId)) (history : History) (inner : Reply) → HistoryCanBeSplit history → TellsTrueOf left past (split_history history) inner → TellsIsolation left past history (isolated_of inner)
-isolated_true laws left past history (told.Order round kind counts order) can tells = (
+isolated_true laws left past history (told.Order Ids round kind counts order) can tells = (
   halved_counts laws.doubles laws.halving history counts tells.0,
   isolation_of laws.verdict history kind can tells.1,
   λ yes. ends_isolated laws.isolate history order (tells.2 yes),
   some_map past (λ gone. ExplainsWhole (split_history history) (gone ++ order)) (λ gone. KeepsBehind history (map event_at gone) (map event_at order)) (λ gone. kept_behind laws.isolate history gone order) tells.3,
 )
-isolated_true laws left past history (told.Violated round counts tree) can tells = (halved_counts laws.doubles laws.halving history counts tells.0, isolation_of laws.verdict history kinds.Violated can tells.1)
+isolated_true laws left past history (told.Violated Ids round counts tree) can tells = (halved_counts laws.doubles laws.halving history counts tells.0, isolation_of laws.verdict history kinds.Violated can tells.1)
 isolated_true laws left past history (told.Spent round counts) can tells = halved_counts laws.doubles laws.halving history counts tells
 isolated_true laws left past history (told.Cut fence gone last) can tells = tt
 isolated_true laws left past history (told.Show marks received closed last remaining) can tells = tt
-isolated_true laws left past history (told.Events round kind counts order) can tells = absurd tells
-isolated_true laws left past history (told.Broken round counts tree) can tells = absurd tells
+isolated_true laws left past history (told.Order Events round kind counts order) can tells = absurd tells
+isolated_true laws left past history (told.Violated Events round counts tree) can tells = absurd tells
 isolated_true laws left past history inner can tells = tells
 
 -- a reply that is told so
@@ -612,8 +613,8 @@ isolated_rest laws version old new accepted next command inner history is holds 
 -- a round may begin
 begun_on : Laws → (version : Version) (old new : AuditState) (accepted : Accepted) (inner : Reply) → AnswersBeside version old Begin inner new → StandsSplit old.engine accepted → IsIsolatedOn accepted Begin (isolated_of inner) new.engine
 begun_on laws version old new accepted told.Done is holds = isolated_rest laws version old new accepted (record accepted { asked = accepted.whole }) Begin told.Done accepted.asked is holds refl refl holds.holds.asked refl refl holds.holds.whole holds.holds.whole
-begun_on laws version old new accepted (told.Order round kind counts order) is holds = isolated_rest laws version old new accepted accepted Begin (told.Order round kind counts order) accepted.asked is holds refl refl holds.holds.asked refl refl holds.holds.whole holds.holds.asked
-begun_on laws version old new accepted (told.Violated round counts tree) is holds = isolated_rest laws version old new accepted accepted Begin (told.Violated round counts tree) accepted.asked is holds refl refl holds.holds.asked refl refl holds.holds.whole holds.holds.asked
+begun_on laws version old new accepted (told.Order names round kind counts order) is holds = isolated_rest laws version old new accepted accepted Begin (told.Order names round kind counts order) accepted.asked is holds refl refl holds.holds.asked refl refl holds.holds.whole holds.holds.asked
+begun_on laws version old new accepted (told.Violated names round counts tree) is holds = isolated_rest laws version old new accepted accepted Begin (told.Violated names round counts tree) accepted.asked is holds refl refl holds.holds.asked refl refl holds.holds.whole holds.holds.asked
 begun_on laws version old new accepted (told.Spent round counts) is holds = isolated_rest laws version old new accepted accepted Begin (told.Spent round counts) accepted.asked is holds refl refl holds.holds.asked refl refl holds.holds.whole holds.holds.asked
 begun_on laws version old new accepted (told.Cut fence gone last) is holds = isolated_rest laws version old new accepted accepted Begin (told.Cut fence gone last) accepted.asked is holds refl refl holds.holds.asked refl refl holds.holds.whole holds.holds.asked
 begun_on laws version old new accepted (told.Show marks received closed last remaining) is holds = isolated_rest laws version old new accepted accepted Begin (told.Show marks received closed last remaining) accepted.asked is holds refl refl holds.holds.asked refl refl holds.holds.whole holds.holds.asked
@@ -666,28 +667,26 @@ Begun origin old command answer begun = Fits (stage_after old begun) (accepted_a
 along_begun : (origin : Origin) (old : Stage) (command : Command) (answer : Reply) (begun is : Option Stage) → begun ≡ is → Begun origin old command answer is → Begun origin old command answer begun
 along_begun origin old command answer begun is same fits = subst (λ (o : Option Stage). Begun origin old command answer o) (sym same) fits
 
+-- an engine that is opened stands for nothing yet
+opened_stands : Laws → (opening : Opening) (sessions limit : ℕ) → Holds (opened_engine opening sessions limit) (opened_state opening sessions limit) → StandsIn opening (opened_engine opening sessions limit) (nothing_accepted sessions)
+opened_stands laws (Ordered version) sessions limit holds = record { holds = holds; left = λ yes. laws.fresh_on (most_sessions version) sessions limit; behind = laws.fresh_behind (most_sessions version) sessions limit }
+opened_stands laws (Isolated version) sessions limit holds = record {
+  holds = laws.fresh (most_sessions version) sessions (2 * limit) holds;
+  left = λ yes.
+      subst (λ (history : History). HoldsLeft (fresh (most_sessions version) sessions (2 * limit)) history history) (sym (laws.nothing sessions).0) (laws.fresh_on (most_sessions version) sessions (2 * limit));
+  behind = subst (λ (history : History). HoldsBehind [] (fresh (most_sessions version) sessions (2 * limit)) history history) (sym (laws.nothing sessions).0) (laws.fresh_behind (most_sessions version) sessions (2 * limit));
+}
+
 first_fits : Laws → (origin : Origin) (old : Stage) (command : Command) (answer : Reply) (begun : Option Stage) → Fits old None → AnswersFirst command answer begun → Begun origin old command answer begun
-first_fits laws origin old (Start sessions limit version) told.Done begun none first = along_begun origin old (Start sessions limit version) told.Done begun _ first.2 (record { holds = first.3; left = λ yes. laws.fresh_on (most_sessions version) sessions limit; behind = laws.fresh_behind (most_sessions version) sessions limit })
-first_fits laws origin old (Start sessions limit version) (told.No refusal) begun none first = along_begun origin old (Start sessions limit version) (told.No refusal) begun None first.1 none
-first_fits laws origin old (Start sessions limit version) answer begun none first = absurd first
-first_fits laws origin old (StartIsolated sessions limit version) told.Done begun none first =
-    along_begun origin old (StartIsolated sessions limit version) told.Done begun _ first.2 (record {
-      holds = laws.fresh (most_sessions version) sessions (2 * limit) first.3;
-      left = λ yes.
-          subst (λ (history : History). HoldsLeft (fresh (most_sessions version) sessions (2 * limit)) history history) (sym (laws.nothing sessions).0) (laws.fresh_on (most_sessions version) sessions (2 * limit));
-      behind = subst (λ (history : History). HoldsBehind [] (fresh (most_sessions version) sessions (2 * limit)) history history) (sym (laws.nothing sessions).0) (laws.fresh_behind (most_sessions version) sessions (2 * limit));
-    })
-first_fits laws origin old (StartIsolated sessions limit version) (told.No refusal) begun none first = along_begun origin old (StartIsolated sessions limit version) (told.No refusal) begun None first.1 none
-first_fits laws origin old (StartIsolated sessions limit version) answer begun none first = absurd first
-first_fits laws origin old (StartStrict sessions limit version) told.Done begun none first = along_begun origin old (StartStrict sessions limit version) told.Done begun _ first.2 tt
-first_fits laws origin old (StartStrict sessions limit version) (told.No refusal) begun none first = along_begun origin old (StartStrict sessions limit version) (told.No refusal) begun None first.1 none
-first_fits laws origin old (StartStrict sessions limit version) answer begun none first = absurd first
-first_fits laws origin old (Resume sessions limit (Ordered version)) told.Done begun none first = along_begun origin old (Resume sessions limit (Ordered version)) told.Done begun _ first.2 tt
-first_fits laws origin old (Resume sessions limit (Ordered version)) (told.No refusal) begun none first = along_begun origin old (Resume sessions limit (Ordered version)) (told.No refusal) begun None first.1 none
-first_fits laws origin old (Resume sessions limit (Ordered version)) answer begun none first = absurd first
-first_fits laws origin old (Resume sessions limit (Isolated version)) told.Done begun none first = along_begun origin old (Resume sessions limit (Isolated version)) told.Done begun _ first.2 tt
-first_fits laws origin old (Resume sessions limit (Isolated version)) (told.No refusal) begun none first = along_begun origin old (Resume sessions limit (Isolated version)) (told.No refusal) begun None first.1 none
-first_fits laws origin old (Resume sessions limit (Isolated version)) answer begun none first = absurd first
+first_fits laws origin old (Start sessions limit (Resumable opening)) told.Done begun none first = along_begun origin old (Start sessions limit (Resumable opening)) told.Done begun _ first.1 (opened_stands laws opening sessions limit first.2)
+first_fits laws origin old (Start sessions limit (Resumable opening)) (told.No refusal) begun none first = along_begun origin old (Start sessions limit (Resumable opening)) (told.No refusal) begun None first.1 none
+first_fits laws origin old (Start sessions limit (Resumable opening)) answer begun none first = absurd first
+first_fits laws origin old (Start sessions limit (Strict version)) told.Done begun none first = along_begun origin old (Start sessions limit (Strict version)) told.Done begun _ first.1 tt
+first_fits laws origin old (Start sessions limit (Strict version)) (told.No refusal) begun none first = along_begun origin old (Start sessions limit (Strict version)) (told.No refusal) begun None first.1 none
+first_fits laws origin old (Start sessions limit (Strict version)) answer begun none first = absurd first
+first_fits laws origin old (Resume sessions limit opening) told.Done begun none first = along_begun origin old (Resume sessions limit opening) told.Done begun _ first.1 tt
+first_fits laws origin old (Resume sessions limit opening) (told.No refusal) begun none first = along_begun origin old (Resume sessions limit opening) (told.No refusal) begun None first.1 none
+first_fits laws origin old (Resume sessions limit opening) answer begun none first = absurd first
 first_fits laws origin old Resumed answer begun none first = subst (λ (a : Reply). Begun origin old Resumed a begun) (sym first.0) (along_begun origin old Resumed (told.No BadLine) begun None first.1 none)
 first_fits laws origin old command answer begun none first = along_begun origin old command answer begun None first.1 none
 
@@ -766,8 +765,7 @@ handing_fits laws origin handed (Ordered version) new command answer is begins =
 handing_fits laws origin handed (Isolated version) new command answer is begins = ⊎_elim (bad new answer) good is
   where
     none : (c : Command) → accepted_after origin None c (told.No BadParts) ≡ None
-    none (Start sessions limit other) = refl
-    none (StartIsolated sessions limit other) = refl
+    none (Start sessions limit (Resumable other)) = refl
     none Resumed = refl
     none c = refl
 
@@ -787,7 +785,7 @@ record IsToldOn (old new : Stage) (accepted : Accepted) (command : Command) (ans
   is_true : IsTrueTold old (Some accepted) command answer ahead
   fits : Fits new (Some (moved (accepted_more accepted command answer) ahead))
 
-open_fits : Wholes → (old : AuditState) (version : Version) (new : Stage) (accepted : Accepted) (command : Command) (answer : Reply) → Answers (stage.Open old version) command answer new → Stands old.engine accepted → IsToldOn (stage.Open old version) new accepted command answer
+open_fits : Wholes → (old : AuditState) (version : Version) (new : Stage) (accepted : Accepted) (command : Command) (answer : Reply) → Answers (stage.Open old (Ordered version)) command answer new → Stands old.engine accepted → IsToldOn (stage.Open old (Ordered version)) new accepted command answer
 open_fits w old version new accepted command answer is holds =
     let on = beside_on w version old is.0 accepted command answer is.1 holds in
     record {
@@ -796,7 +794,7 @@ open_fits w old version new accepted command answer is holds =
       fits = subst (λ (s : Stage). Fits s (Some (moved (accepted_more accepted command answer) on.ahead))) (sym is.2) on.holds;
     }
 
-isolated_fits : Laws → (old : AuditState) (version : Version) (new : Stage) (accepted : Accepted) (command : Command) (answer : Reply) → Answers (stage.Isolated old version) command answer new → StandsSplit old.engine accepted → IsToldOn (stage.Isolated old version) new accepted command answer
+isolated_fits : Laws → (old : AuditState) (version : Version) (new : Stage) (accepted : Accepted) (command : Command) (answer : Reply) → Answers (stage.Open old (Isolated version)) command answer new → StandsSplit old.engine accepted → IsToldOn (stage.Open old (Isolated version)) new accepted command answer
 isolated_fits laws old version new accepted command answer is holds =
     let on = isolated_on laws version old is.0 accepted command answer is.1 holds in
     record {
@@ -807,8 +805,7 @@ isolated_fits laws old version new accepted command answer is holds =
 
 -- a script that is asked for strict serializability has no engine
 strict_accepts : (origin : Origin) (version : Version) (old new : OfferedState) (command : Command) (answer : Reply) → AnswersStrict version old command answer new → accepted_after origin None command answer ≡ None
-strict_accepts origin version old new (Start sessions limit begun) answer is = ap (accepted_after origin None (Start sessions limit begun)) is.0
-strict_accepts origin version old new (StartIsolated sessions limit begun) answer is = ap (accepted_after origin None (StartIsolated sessions limit begun)) is.0
+strict_accepts origin version old new (Start sessions limit (Resumable begun)) answer is = ap (accepted_after origin None (Start sessions limit (Resumable begun))) is.0
 strict_accepts origin version old new Resumed answer is = ap (accepted_after origin None Resumed) is.0
 strict_accepts origin version old new command answer is = refl
 
@@ -819,8 +816,7 @@ strict_fits origin old version new command answer is =
 
 -- where no engine is open
 begins_fit : Laws → (origin : Origin) (old new : Stage) (command : Command) (answer : Reply) → Answers old command answer new → Fits old None → BeginsWith origin old command answer → Fits new (accepted_after origin None command answer)
-begins_fit laws origin (stage.Isolated audit version) new command answer is fits begins = absurd fits
-begins_fit laws origin (stage.Open engine version) new command answer is fits begins = absurd fits
+begins_fit laws origin (stage.Open audit opening) new command answer is fits begins = absurd fits
 begins_fit laws origin (stage.Strict offered version) new command answer is fits begins = strict_fits origin offered version new command answer is
 begins_fit laws origin stage.Nothing new command answer is fits begins = anew_fits laws origin stage.Nothing new command answer tt is
 begins_fit laws origin (stage.Resuming sessions limit opening) new command answer is fits begins = resuming_fits laws origin sessions limit opening new command answer is
@@ -828,8 +824,8 @@ begins_fit laws origin (stage.Handing handed opening) new command answer is fits
 
 fits_still : (new : Stage) (accepted : Option Accepted) → Fits new accepted → Fits new (option_map (λ (so_far : Accepted). moved so_far []) accepted)
 fits_still new None fits = fits
-fits_still (stage.Open audit version) (Some accepted) fits = stands_still audit.engine accepted fits
-fits_still (stage.Isolated audit version) (Some accepted) fits = split_still audit.engine accepted fits
+fits_still (stage.Open audit (Ordered version)) (Some accepted) fits = stands_still audit.engine accepted fits
+fits_still (stage.Open audit (Isolated version)) (Some accepted) fits = split_still audit.engine accepted fits
 fits_still stage.Nothing (Some accepted) fits = absurd fits
 fits_still (stage.Strict offered version) (Some accepted) fits = absurd fits
 fits_still (stage.Resuming sessions limit opening) (Some accepted) fits = absurd fits
@@ -843,8 +839,8 @@ kept_open laws old accepted stands =
 
 are_kept : Laws → (old : Stage) (accepted : Option Accepted) → Fits old accepted → IsKept old accepted
 are_kept laws old None fits = tt
-are_kept laws (stage.Open audit version) (Some accepted) fits = (fits.holds, fits.behind)
-are_kept laws (stage.Isolated audit version) (Some accepted) fits = (fits.holds, kept_open laws audit accepted fits)
+are_kept laws (stage.Open audit (Ordered version)) (Some accepted) fits = (fits.holds, fits.behind)
+are_kept laws (stage.Open audit (Isolated version)) (Some accepted) fits = (fits.holds, kept_open laws audit accepted fits)
 are_kept laws stage.Nothing (Some accepted) fits = absurd fits
 are_kept laws (stage.Strict offered version) (Some accepted) fits = absurd fits
 are_kept laws (stage.Resuming sessions limit opening) (Some accepted) fits = absurd fits
@@ -862,10 +858,10 @@ answers_on laws origin old new None command answer is fits = record {
   is_true = refl;
   fits = λ begins. fits_still new (accepted_after origin None command answer) (begins_fit laws origin old new command answer is fits begins);
 }
-answers_on laws origin (stage.Open engine version) new (Some accepted) command answer is fits =
-    let on = open_fits laws.wholes engine version new accepted command answer is fits in
+answers_on laws origin (stage.Open audit (Ordered version)) new (Some accepted) command answer is fits =
+    let on = open_fits laws.wholes audit version new accepted command answer is fits in
     record { ahead = on.ahead; is_true = on.is_true; fits = λ begins. on.fits }
-answers_on laws origin (stage.Isolated audit version) new (Some accepted) command answer is fits =
+answers_on laws origin (stage.Open audit (Isolated version)) new (Some accepted) command answer is fits =
     let on = isolated_fits laws audit version new accepted command answer is fits in
     record { ahead = on.ahead; is_true = on.is_true; fits = λ begins. on.fits }
 answers_on laws origin stage.Nothing new (Some accepted) command answer is fits = absurd fits

@@ -21,7 +21,7 @@ use Rattle.log_text.specs.Versions.{most_sessions}
 use Rattle.isolation_scripts.specs.SplitParts.{AreSplitParts}
 use Rattle.cobra.specs.HandOver.{AreGoodParts, handed_parts}
 use Rattle.cobra.specs.Saving.{handing_of, isolated_told, saved_told}
-use Rattle.cobra.specs.Scripts.{Answers, IsIsolatedLimit, IsVersionLimit, Resumes}
+use Rattle.cobra.specs.Scripts.{Answers, MayRemain, Resumes}
 use Rattle.cobra.specs.declared.stages.Stage.{Stage}
 use Rattle.cobra.specs.declared.stages.Stage.TheVariants as stage
 
@@ -74,12 +74,12 @@ pub record IsResumed (parts : Parts) (limit : ℕ) (opening : Opening) (given : 
 -- Whatever parts give out is taken where it is handed over, by a script of each version and limit under whose bounds they are good, and comes to
 -- these very parts under these bounds.
 abbrev pub GivenOutIsTaken : Type 0
-GivenOutIsTaken = (parts : Parts) (version : Version) (limit : ℕ) (given : List Saved) → IsGood (bounded parts (most_sessions version) limit) → IsVersionLimit version limit → IsCheckpoint (saved_told parts) (length parts.remain) given → IsResumed (bounded parts (most_sessions version) limit) limit (Ordered version) given
+GivenOutIsTaken = (parts : Parts) (version : Version) (limit : ℕ) (given : List Saved) → IsGood (bounded parts (most_sessions version) limit) → MayRemain (Ordered version) limit → IsCheckpoint (saved_told parts) (length parts.remain) given → IsResumed (bounded parts (most_sessions version) limit) limit (Ordered version) given
 
 -- The same of parts whose transactions are split, which have room for two of each: what they give out is told by transactions as they were
 -- offered, and comes to these very parts again.
 abbrev pub IsolatedOutIsTaken : Type 0
-IsolatedOutIsTaken = (parts : Parts) (version : Version) (limit : ℕ) (given : List Saved) → IsGood (bounded parts (most_sessions version) (2 * limit)) → AreSplitParts parts → IsIsolatedLimit version limit → IsCheckpoint (isolated_told parts) (length parts.remain) given → IsResumed (bounded parts (most_sessions version) (2 * limit)) limit (Isolated version) given
+IsolatedOutIsTaken = (parts : Parts) (version : Version) (limit : ℕ) (given : List Saved) → IsGood (bounded parts (most_sessions version) (2 * limit)) → AreSplitParts parts → MayRemain (Isolated version) limit → IsCheckpoint (isolated_told parts) (length parts.remain) given → IsResumed (bounded parts (most_sessions version) (2 * limit)) limit (Isolated version) given
 
 -- What good parts give out at once, also by transactions as they were offered, is no more than fits into a line.
 abbrev pub GivenOutFits : Type 0

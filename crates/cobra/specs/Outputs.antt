@@ -4,20 +4,21 @@ use Rattle.std.specs.Io.KnownBytes.{Appends}
 use Rattle.std.specs.List.{concat}
 use Rattle.log_text.specs.declared.commands.Command.{Command}
 use Rattle.log_text.specs.declared.names.Names.{Names}
-use Rattle.log_text.specs.declared.names.Names.TheVariants.{Ids, Events}
+use Rattle.log_text.specs.declared.names.Names.TheVariants.{Ids}
 use Rattle.log_text.specs.declared.replies.Reply.{Reply}
 use Rattle.log_text.specs.Commands.{IsCommand}
 use Rattle.log_text.specs.Replies.{line_of}
+use Rattle.log_text.specs.Versions.{names_of}
 use Rattle.byte_lines.specs.declared.lines.Next.{Next}
 use Rattle.byte_lines.specs.declared.lines.Next.TheVariants.{Line, TooLong, End}
 use Rattle.byte_lines.specs.Lines.{lines, lf_count}
 use Rattle.cobra.specs.Scripts.{IsBadLine, Answers}
 use Rattle.cobra.specs.declared.stages.Stage.{Stage}
-use Rattle.cobra.specs.declared.stages.Stage.TheVariants.{Nothing, Isolated}
+use Rattle.cobra.specs.declared.stages.Stage.TheVariants.{Nothing, Open}
 
--- How the lines of a script name transactions: by begins and commits, where they are split, and else by ids.
+-- How the lines of a script name transactions: by ids, where no engine is open yet.
 abbrev pub names_at : Stage → Names
-names_at (Isolated audit version) = Events
+names_at (Open audit opening) = names_of opening
 names_at other = Ids
 
 -- the line is the command, where lines name transactions by these names, and isn't too long for one

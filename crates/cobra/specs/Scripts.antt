@@ -10,7 +10,7 @@ use Rattle.order_check.specs.declared.remainder.Parts.{Parts}
 use Rattle.order_check.specs.Based.{received_counts}
 use Rattle.order_check.specs.StandsFor.{StandsFor}
 use Rattle.log_text.specs.declared.commands.Command.{Command}
-use Rattle.log_text.specs.declared.commands.Command.TheVariants.{Start, StartIsolated, StartStrict, Offer, OfferTimed, Join, Close, Begin, Finish, Round, BeginSearch, Collect, Skip, Truncate, Rebuild, Show, Resume, Marks, MarksBegun, Last, Resumed, Save, Answer}
+use Rattle.log_text.specs.declared.commands.Command.TheVariants.{Start, Offer, OfferTimed, Join, Close, Begin, Finish, Round, BeginSearch, Collect, Skip, Truncate, Rebuild, Show, Resume, Marks, MarksBegun, Last, Resumed, Save, Answer}
 use Rattle.log_text.specs.declared.replies.Reply.{Reply}
 use Rattle.log_text.specs.declared.replies.Reply.TheVariants as told
 use Rattle.log_text.specs.declared.searches.Search.{Search}
@@ -18,7 +18,9 @@ use Rattle.log_text.specs.declared.versions.Opening.{Opening}
 use Rattle.log_text.specs.declared.versions.Opening.TheVariants.{Ordered, Isolated}
 use Rattle.log_text.specs.declared.versions.Version.{Version}
 use Rattle.log_text.specs.declared.versions.Version.TheVariants.{One}
-use Rattle.log_text.specs.Versions.{greatest_limit, greatest_split_limit, has_form, most_sessions}
+use Rattle.log_text.specs.declared.versions.Promise.{Promise}
+use Rattle.log_text.specs.declared.versions.Promise.TheVariants.{Resumable, Strict}
+use Rattle.log_text.specs.Versions.{has_form, most_remaining, most_sessions, version_of}
 use Rattle.logged_fragments.specs.declared.logged.LoggedFragment.{LoggedFragment}
 use Rattle.round_state.specs.EngineState.{EngineState, engine_over}
 use Rattle.round_state.specs.Opening.{IsSessions, fresh, fresh_state}
@@ -146,6 +148,11 @@ AnswersIsolated version old command answer new =
     ((refusal : Refusal) × IsAskedFault (most_sessions version) command refusal × (answer ≡ told.No refusal) × (new ≡ old))
     ⊎ (CanBeAsked (most_sessions version) command × (inner : Reply) × AnswersBeside version old (split_command command) inner new × (answer ≡ isolated_of inner))
 
+-- by what the script is opened for
+abbrev pub AnswersIn : Opening → AuditState → Command → Reply → AuditState → Type 0
+AnswersIn (Ordered version) old command answer new = AnswersBeside version old command answer new
+AnswersIn (Isolated version) old command answer new = AnswersIsolated version old command answer new
+
 -- A round over all that was offered with its times is made by an engine that has it rewritten and nothing else; its report has the script's number.
 abbrev pub RoundsStrictly : OfferedState → Search → ℕ → ℕ → ℕ → Reply → OfferedState → Type 0
 RoundsStrictly old search budget depth workers answer new =
@@ -160,69 +167,64 @@ AnswersStrict version old (OfferTimed logged began ended) answer new = IsTakenIn
 AnswersStrict version old (Round budget depth workers search) answer new = RoundsStrictly old search budget depth workers answer new
 AnswersStrict version old command answer new = IsBadLine old answer new
 
--- so many transactions may be let remain, where at most this many may
-abbrev pub IsLimitWithin : ℕ → ℕ → Type 0
-IsLimitWithin most limit = (1 ≤ limit) × (limit ≤ most)
-
--- Why no script begins, where there may be at most so many sessions, and at most so many transactions may be let remain: the number of sessions
--- is judged before the limit, and memory is asked for last.
-abbrev pub IsBeginningRefusal : ℕ → ℕ → ℕ → ℕ → Refusal → Type 0
-IsBeginningRefusal many most sessions limit BadSession = ¬ IsSessions many sessions
-IsBeginningRefusal many most sessions limit TooLong = IsSessions many sessions × (¬ IsLimitWithin most limit)
-IsBeginningRefusal many most sessions limit NoMemory = IsSessions many sessions × IsLimitWithin most limit
-IsBeginningRefusal many most sessions limit refusal = ⊥
-
--- there may be so many sessions in a script of this version
-abbrev pub AreVersionSessions : Version → ℕ → Type 0
-AreVersionSessions version = IsSessions (most_sessions version)
+-- there may be so many sessions in a script that is opened for this
+abbrev pub AreSessionsFor : Opening → ℕ → Type 0
+AreSessionsFor opening = IsSessions (most_sessions (version_of opening))
 
 -- so many transactions may be let remain in it
-abbrev pub IsVersionLimit : Version → ℕ → Type 0
-IsVersionLimit version = IsLimitWithin (greatest_limit version)
+abbrev pub MayRemain : Opening → ℕ → Type 0
+MayRemain opening limit = (1 ≤ limit) × (limit ≤ most_remaining opening)
 
--- why none begins
-abbrev pub IsVersionRefusal : Version → ℕ → ℕ → Refusal → Type 0
-IsVersionRefusal version = IsBeginningRefusal (most_sessions version) (greatest_limit version)
+-- one may begin with these numbers
+abbrev pub MayBegin : Opening → ℕ → ℕ → Type 0
+MayBegin opening sessions limit = AreSessionsFor opening sessions × MayRemain opening limit
+
+-- Why none begins: the number of sessions is judged before the limit, and memory is asked for last.
+abbrev pub IsBeginningRefusal : Opening → ℕ → ℕ → Refusal → Type 0
+IsBeginningRefusal opening sessions limit BadSession = ¬ AreSessionsFor opening sessions
+IsBeginningRefusal opening sessions limit TooLong = AreSessionsFor opening sessions × (¬ MayRemain opening limit)
+IsBeginningRefusal opening sessions limit NoMemory = MayBegin opening sessions limit
+IsBeginningRefusal opening sessions limit refusal = ⊥
+
+-- for how many transactions an engine has room then: for two of each, where they are split
+abbrev pub room_of : Opening → ℕ → ℕ
+room_of (Ordered version) limit = limit
+room_of (Isolated version) limit = 2 * limit
+
+-- the engine that is opened then, by which nothing was received, and its state
+abbrev pub opened_engine : Opening → ℕ → ℕ → EngineState
+opened_engine opening sessions limit = fresh (most_sessions (version_of opening)) sessions (room_of opening limit)
+
+abbrev pub opened_state : Opening → ℕ → ℕ → State
+opened_state opening sessions limit = fresh_state (most_sessions (version_of opening)) sessions (room_of opening limit)
 
 -- An engine is opened: it is a fresh one, which stands for the history in which nothing was received. Where it isn't, no stage begins.
-abbrev pub Opens : ℕ → ℕ → Version → Reply → Option Stage → Type 0
-Opens sessions limit version told.Done begun = AreVersionSessions version sessions × IsVersionLimit version limit × (begun ≡ Some (stage.Open (unsearched (fresh (most_sessions version) sessions limit)) version)) × Holds (fresh (most_sessions version) sessions limit) (fresh_state (most_sessions version) sessions limit)
-Opens sessions limit version (told.No refusal) begun = IsVersionRefusal version sessions limit refusal × (begun ≡ None)
-Opens sessions limit version answer begun = ⊥
-
--- so many transactions may be let remain in a script of this version where each is split
-abbrev pub IsIsolatedLimit : Version → ℕ → Type 0
-IsIsolatedLimit version = IsLimitWithin (greatest_split_limit version)
-
--- why no engine is given for them
-abbrev pub IsIsolatedRefusal : Version → ℕ → ℕ → Refusal → Type 0
-IsIsolatedRefusal version = IsBeginningRefusal (most_sessions version) (greatest_split_limit version)
-
--- An engine is opened whose transactions are split: it has room for two of each.
-abbrev pub OpensIsolated : ℕ → ℕ → Version → Reply → Option Stage → Type 0
-OpensIsolated sessions limit version told.Done begun = AreVersionSessions version sessions × IsIsolatedLimit version limit × (begun ≡ Some (stage.Isolated (unsearched (fresh (most_sessions version) sessions (2 * limit))) version)) × Holds (fresh (most_sessions version) sessions (2 * limit)) (fresh_state (most_sessions version) sessions (2 * limit))
-OpensIsolated sessions limit version (told.No refusal) begun = IsIsolatedRefusal version sessions limit refusal × (begun ≡ None)
-OpensIsolated sessions limit version answer begun = ⊥
+abbrev pub Opens : ℕ → ℕ → Opening → Reply → Option Stage → Type 0
+Opens sessions limit opening told.Done begun =
+    MayBegin opening sessions limit × (begun ≡ Some (stage.Open (unsearched (opened_engine opening sessions limit)) opening)) × Holds (opened_engine opening sessions limit) (opened_state opening sessions limit)
+Opens sessions limit opening (told.No refusal) begun = IsBeginningRefusal opening sessions limit refusal × (begun ≡ None)
+Opens sessions limit opening answer begun = ⊥
 
 -- One begins that is asked for strict serializability: nothing was offered yet, and at most so many transactions may be.
 abbrev pub OpensStrict : ℕ → ℕ → Version → Reply → Option Stage → Type 0
-OpensStrict sessions limit version told.Done begun = AreVersionSessions version sessions × IsVersionLimit version limit × (begun ≡ Some (stage.Strict (nothing_offered (most_sessions version) sessions limit) version))
-OpensStrict sessions limit version (told.No refusal) begun = IsVersionRefusal version sessions limit refusal × (begun ≡ None)
+OpensStrict sessions limit version told.Done begun = MayBegin (Ordered version) sessions limit × (begun ≡ Some (stage.Strict (nothing_offered (most_sessions version) sessions limit) version))
+OpensStrict sessions limit version (told.No refusal) begun = IsBeginningRefusal (Ordered version) sessions limit refusal × (begun ≡ None)
 OpensStrict sessions limit version answer begun = ⊥
 
--- A hand-over begins, where an engine may be opened: of parts with room for two of each, where transactions are split.
+-- by what the script is opened for
+abbrev pub Starts : ℕ → ℕ → Promise → Reply → Option Stage → Type 0
+Starts sessions limit (Resumable opening) answer begun = Opens sessions limit opening answer begun
+Starts sessions limit (Strict version) answer begun = OpensStrict sessions limit version answer begun
+
+-- A hand-over begins, where an engine may be opened: of parts with as much room.
 abbrev pub Resumes : ℕ → ℕ → Opening → Reply → Option Stage → Type 0
-Resumes sessions limit (Ordered version) told.Done begun = AreVersionSessions version sessions × IsVersionLimit version limit × (begun ≡ Some (stage.Resuming sessions limit (Ordered version)))
-Resumes sessions limit (Ordered version) (told.No refusal) begun = IsVersionRefusal version sessions limit refusal × (begun ≡ None)
-Resumes sessions limit (Isolated version) told.Done begun = AreVersionSessions version sessions × IsIsolatedLimit version limit × (begun ≡ Some (stage.Resuming sessions (2 * limit) (Isolated version)))
-Resumes sessions limit (Isolated version) (told.No refusal) begun = IsIsolatedRefusal version sessions limit refusal × (begun ≡ None)
+Resumes sessions limit opening told.Done begun = MayBegin opening sessions limit × (begun ≡ Some (stage.Resuming sessions (room_of opening limit) opening))
+Resumes sessions limit opening (told.No refusal) begun = IsBeginningRefusal opening sessions limit refusal × (begun ≡ None)
 Resumes sessions limit opening answer begun = ⊥
 
 -- the reply to a command with which a script begins, and the stage that begins, where one does
 abbrev pub AnswersFirst : Command → Reply → Option Stage → Type 0
-AnswersFirst (Start sessions limit version) answer begun = Opens sessions limit version answer begun
-AnswersFirst (StartIsolated sessions limit version) answer begun = OpensIsolated sessions limit version answer begun
-AnswersFirst (StartStrict sessions limit version) answer begun = OpensStrict sessions limit version answer begun
+AnswersFirst (Start sessions limit promise) answer begun = Starts sessions limit promise answer begun
 AnswersFirst (Resume sessions limit opening) answer begun = Resumes sessions limit opening answer begun
 AnswersFirst command answer begun = (answer ≡ told.No BadLine) × (begun ≡ None)
 
@@ -235,11 +237,6 @@ stage_after old (Some begun) = begun
 -- another hand-over begins. Else nothing changes.
 abbrev pub BeginsAnew : Stage → Command → Reply → Stage → Type 0
 BeginsAnew old command answer new = (begun : Option Stage) × AnswersFirst command answer begun × (new ≡ stage_after old begun)
-
--- the version in whose lines something is opened
-abbrev pub version_of : Opening → Version
-version_of (Ordered version) = version
-version_of (Isolated version) = version
 
 -- marks and flags are handed over
 abbrev pub HandsMarks : ℕ → ℕ → Opening → List ℕ → List Bool → Reply → Stage → Type 0
@@ -283,14 +280,9 @@ state_over parts whole = record { engine = engine_over parts; whole = whole; ask
 abbrev pub HoldsAll : Parts → Type 0
 HoldsAll parts = (whole : History) → StandsFor parts whole → Holds (engine_over parts) (state_over parts whole)
 
--- what is open for this then
-abbrev pub opened : Opening → AuditState → Stage
-opened (Ordered version) audit = stage.Open audit version
-opened (Isolated version) audit = stage.Isolated audit version
-
 -- The hand-over ends: the parts that were handed over are good, and the engine has these and nothing else.
 abbrev pub EndsHandOver : Handing → Opening → Reply → Stage → Type 0
-EndsHandOver handed opening told.Done new = AreGoodParts handed × (new ≡ opened opening (unsearched (engine_over (handed_parts handed)))) × HoldsAll (handed_parts handed)
+EndsHandOver handed opening told.Done new = AreGoodParts handed × (new ≡ stage.Open (unsearched (engine_over (handed_parts handed))) opening) × HoldsAll (handed_parts handed)
 EndsHandOver handed opening (told.No refusal) new = IsResumedRefusal handed refusal × (new ≡ stage.Handing handed opening)
 EndsHandOver handed opening answer new = ⊥
 
@@ -313,6 +305,5 @@ abbrev pub Answers : Stage → Command → Reply → Stage → Type 0
 Answers stage.Nothing command answer new = BeginsAnew stage.Nothing command answer new
 Answers (stage.Resuming sessions limit opening) command answer new = AnswersResuming sessions limit opening command answer new
 Answers (stage.Handing handed opening) command answer new = AnswersHanding handed opening command answer new
-Answers (stage.Open old version) command answer new = (audit : AuditState) × AnswersBeside version old command answer audit × (new ≡ stage.Open audit version)
-Answers (stage.Isolated old version) command answer new = (audit : AuditState) × AnswersIsolated version old command answer audit × (new ≡ stage.Isolated audit version)
+Answers (stage.Open old opening) command answer new = (audit : AuditState) × AnswersIn opening old command answer audit × (new ≡ stage.Open audit opening)
 Answers (stage.Strict old version) command answer new = (after : OfferedState) × AnswersStrict version old command answer after × (new ≡ stage.Strict after version)

@@ -1,5 +1,6 @@
 -- How the replies to an engine's steps are told.
 use Rattle.std.specs.FinMap as map
+use Rattle.log_text.specs.declared.names.Names.TheVariants.{Ids}
 use Rattle.log_text.specs.declared.replies.Reply.{Reply}
 use Rattle.log_text.specs.declared.replies.Reply.TheVariants as told
 use Rattle.log_text.specs.declared.shown.Shown.{Shown}
@@ -20,8 +21,8 @@ claim_of (shown.Refuted tree) = claim.Refuted tree
 
 -- a report with this certificate
 abbrev pub certified : Report → Certificate → Reply
-certified report (Order order) = told.Order report.round report.kind report.counts order
-certified report (Refuted tree) = told.Violated report.round report.counts tree
+certified report (Order order) = told.Order Ids report.round report.kind report.counts order
+certified report (Refuted tree) = told.Violated Ids report.round report.counts tree
 certified report Nothing = told.Spent report.round report.counts
 
 abbrev pub report_of : Report → Reply

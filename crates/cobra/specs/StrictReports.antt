@@ -5,7 +5,9 @@ use Rattle.std.specs.List.{concat}
 use Rattle.txn.specs.History.{session_of}
 use Rattle.logged_fragments.specs.declared.logged.LoggedFragment.{LoggedFragment}
 use Rattle.log_text.specs.declared.commands.Command.{Command}
-use Rattle.log_text.specs.declared.commands.Command.TheVariants.{StartStrict, Offer, OfferTimed}
+use Rattle.log_text.specs.declared.commands.Command.TheVariants.{Start, Offer, OfferTimed}
+use Rattle.log_text.specs.declared.versions.Promise.TheVariants.{Strict}
+use Rattle.log_text.specs.declared.names.Names.TheVariants.{Ids}
 use Rattle.log_text.specs.declared.replies.Reply.{Reply}
 use Rattle.log_text.specs.declared.replies.Reply.TheVariants as told
 use Rattle.log_text.specs.Replies.{line_of}
@@ -25,7 +27,7 @@ with_timed timed logged spans = slice_set timed logged.fragment.session (session
 -- What a script's lines had offered with its times and what was answered ok: nothing where one is opened, and with each offer what its fragment did, in
 -- which no time is known where its line tells none. A script that isn't asked for strict serializability has none.
 abbrev pub timed_after : Option TimedHistory → Command → Reply → Option TimedHistory
-timed_after None (StartStrict sessions limit version) told.Done = Some (replicate sessions [])
+timed_after None (Start sessions limit (Strict version)) told.Done = Some (replicate sessions [])
 timed_after None command answer = None
 timed_after (Some old) (Offer logged) told.Done = Some (with_timed old logged [])
 timed_after (Some old) (OfferTimed logged began ended) told.Done = Some (with_timed old logged (spans_of began ended))
@@ -34,8 +36,8 @@ timed_after (Some old) command answer = Some old
 -- A reply is true of what was offered with its times. A report counts the transactions of each session. Its kind, where it isn't spent, is the verdict by
 -- strict serializability; and its order explains what was offered and keeps real time. But for reports it is ok or a refusal.
 abbrev pub TellsStrictly : TimedHistory → Reply → Type 0
-TellsStrictly timed (told.Order round kind counts order) = (counts ≡ map length timed) × IsStrictVerdict timed kind × IsStrictOrder timed order
-TellsStrictly timed (told.Violated round counts tree) = (counts ≡ map length timed) × (¬ HasStrictOrder timed)
+TellsStrictly timed (told.Order Ids round kind counts order) = (counts ≡ map length timed) × IsStrictVerdict timed kind × IsStrictOrder timed order
+TellsStrictly timed (told.Violated Ids round counts tree) = (counts ≡ map length timed) × (¬ HasStrictOrder timed)
 TellsStrictly timed (told.Spent round counts) = counts ≡ map length timed
 TellsStrictly timed told.Done = ⊤
 TellsStrictly timed (told.No refusal) = ⊤

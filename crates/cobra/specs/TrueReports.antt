@@ -9,11 +9,13 @@ use Rattle.order_check.specs.declared.remainder.Kind.TheVariants as kinds
 use Rattle.order_check.specs.StandsFor.{StandsFor, history_after, with_fragment}
 use Rattle.order_check.specs.Whole.{ExplainsWhole}
 use Rattle.log_text.specs.declared.commands.Command.{Command}
-use Rattle.log_text.specs.declared.commands.Command.TheVariants.{Start, StartIsolated, Offer, Join, Begin, Round, Resumed}
+use Rattle.log_text.specs.declared.commands.Command.TheVariants.{Start, Offer, Join, Begin, Round, Resumed}
+use Rattle.log_text.specs.declared.names.Names.TheVariants.{Ids, Events}
 use Rattle.log_text.specs.declared.replies.Reply.{Reply}
 use Rattle.log_text.specs.declared.replies.Reply.TheVariants as told
 use Rattle.log_text.specs.Replies.{line_of}
 use Rattle.log_text.specs.declared.versions.Opening.TheVariants.{Ordered, Isolated}
+use Rattle.log_text.specs.declared.versions.Promise.TheVariants.{Resumable}
 use Rattle.round_state.specs.EngineState.{EngineState}
 use Rattle.round_state.specs.Legal.{State, IsTrueOf}
 use Rattle.round_state.specs.Opening.{no_history}
@@ -63,10 +65,13 @@ accepted_more old command answer = old
 abbrev pub moved : Accepted → List TxnId → Accepted
 moved old ahead = record old { past = option_map (λ gone. gone ++ ahead) old.past }
 
+-- where nothing was accepted, and nothing is gone
+abbrev pub nothing_accepted : ℕ → Accepted
+nothing_accepted sessions = record { whole = no_history sessions; asked = no_history sessions; left = true; past = Some [] }
+
 -- The same of a script: nothing was accepted where one is opened, and nothing is gone. One that resumes another begins with the whole history of that.
 abbrev pub accepted_after : Origin → Option Accepted → Command → Reply → Option Accepted
-accepted_after origin None (Start sessions limit version) told.Done = Some (record { whole = no_history sessions; asked = no_history sessions; left = true; past = Some [] })
-accepted_after origin None (StartIsolated sessions limit version) told.Done = Some (record { whole = no_history sessions; asked = no_history sessions; left = true; past = Some [] })
+accepted_after origin None (Start sessions limit (Resumable opening)) told.Done = Some (nothing_accepted sessions)
 accepted_after origin None Resumed told.Done = Some (record { whole = origin.whole; asked = origin.whole; left = origin.left; past = origin.past })
 accepted_after origin None command answer = None
 accepted_after origin (Some old) command answer = Some (accepted_more old command answer)
@@ -80,28 +85,28 @@ reported_on accepted command = accepted.asked
 -- the verdict of the whole: by some order. An order that it shows is the end of one that explains the whole history, where what is kept is what is left
 -- of it; and put behind what is gone, where the order of that is known, it explains the whole history. No such reply shows begins and commits.
 abbrev pub TellsTrueOf : Bool → Option (List TxnId) → History → Reply → Type 0
-TellsTrueOf left past history (told.Order round kind counts order) = (counts ≡ map length history) × IsTrueOf history kind × (left ≡ true → EndsOrder history order) × IfSome past (λ gone. ExplainsWhole history (gone ++ order))
-TellsTrueOf left past history (told.Violated round counts tree) = (counts ≡ map length history) × IsTrueOf history kinds.Violated
+TellsTrueOf left past history (told.Order Ids round kind counts order) = (counts ≡ map length history) × IsTrueOf history kind × (left ≡ true → EndsOrder history order) × IfSome past (λ gone. ExplainsWhole history (gone ++ order))
+TellsTrueOf left past history (told.Violated Ids round counts tree) = (counts ≡ map length history) × IsTrueOf history kinds.Violated
 TellsTrueOf left past history (told.Spent round counts) = counts ≡ map length history
-TellsTrueOf left past history (told.Events round kind counts order) = ⊥
-TellsTrueOf left past history (told.Broken round counts tree) = ⊥
+TellsTrueOf left past history (told.Order Events round kind counts order) = ⊥
+TellsTrueOf left past history (told.Violated Events round counts tree) = ⊥
 TellsTrueOf left past history other = ⊤
 
 -- The same by snapshot isolation, of begins and commits: the verdict is by an order of these that is snapshot isolation, and so is what is said of the
 -- one that is shown. No such reply shows an order of transactions.
 abbrev pub TellsIsolation : Bool → Option (List TxnId) → History → Reply → Type 0
-TellsIsolation left past history (told.Events round kind counts order) =
+TellsIsolation left past history (told.Order Events round kind counts order) =
     (counts ≡ map length history) × IsIsolationOf history kind × (left ≡ true → EndsSnapshotOrder history (map event_at order))
     × IfSome past (λ gone. KeepsBehind history (map event_at gone) (map event_at order))
-TellsIsolation left past history (told.Broken round counts tree) = (counts ≡ map length history) × IsIsolationOf history kinds.Violated
+TellsIsolation left past history (told.Violated Events round counts tree) = (counts ≡ map length history) × IsIsolationOf history kinds.Violated
 TellsIsolation left past history (told.Spent round counts) = counts ≡ map length history
-TellsIsolation left past history (told.Order round kind counts order) = ⊥
-TellsIsolation left past history (told.Violated round counts tree) = ⊥
+TellsIsolation left past history (told.Order Ids round kind counts order) = ⊥
+TellsIsolation left past history (told.Violated Ids round counts tree) = ⊥
 TellsIsolation left past history other = ⊤
 
 -- by the promise that the script asks for
 abbrev pub TellsBy : Stage → Bool → Option (List TxnId) → History → Reply → Type 0
-TellsBy (stage.Isolated audit version) left past history answer = TellsIsolation left past history answer
+TellsBy (stage.Open audit (Isolated version)) left past history answer = TellsIsolation left past history answer
 TellsBy other left past history answer = TellsTrueOf left past history answer
 
 -- an engine beside all that was accepted, and what had been accepted when the open round began
@@ -111,8 +116,8 @@ state_of engine accepted = record { engine = engine; whole = accepted.whole; ask
 -- What the engine of a script keeps stands for all that was accepted: whatever may still come, the verdicts agree (StandsFor). So does the open round's
 -- snapshot for what had been accepted when the round began. Where transactions are split, their halves do.
 abbrev pub StandsForAccepted : Stage → Accepted → Type 0
-StandsForAccepted (stage.Open audit version) accepted = Holds audit.engine (state_of audit.engine accepted)
-StandsForAccepted (stage.Isolated audit version) accepted = HoldsSplit audit.engine (state_of audit.engine accepted)
+StandsForAccepted (stage.Open audit (Ordered version)) accepted = Holds audit.engine (state_of audit.engine accepted)
+StandsForAccepted (stage.Open audit (Isolated version)) accepted = HoldsSplit audit.engine (state_of audit.engine accepted)
 StandsForAccepted other accepted = ⊥
 
 -- Where transactions are split: each of those accepted can be; the halves that an engine holds remain of theirs, behind the halves that are gone, in
@@ -124,8 +129,8 @@ IsKeptSplit gone engine whole asked =
 -- What the engine of a script holds remains of what was accepted, behind what is gone, in this order, split or not: so what a show, a save and a cut
 -- tell of is that. The open round's snapshot is one of what was accepted when the round began, behind the same.
 abbrev pub IsKeptBehind : Stage → List TxnId → Accepted → Type 0
-IsKeptBehind (stage.Open audit version) gone accepted = HoldsBehind gone audit.engine accepted.whole accepted.asked
-IsKeptBehind (stage.Isolated audit version) gone accepted = IsKeptSplit gone audit.engine accepted.whole accepted.asked
+IsKeptBehind (stage.Open audit (Ordered version)) gone accepted = HoldsBehind gone audit.engine accepted.whole accepted.asked
+IsKeptBehind (stage.Open audit (Isolated version)) gone accepted = IsKeptSplit gone audit.engine accepted.whole accepted.asked
 IsKeptBehind other gone accepted = ⊥
 
 -- Once an engine is open, what is kept stands for what was accepted, and, where the order of what is gone is known, remains behind that.
@@ -145,7 +150,7 @@ MovesHalves answer ahead = ahead ≡ []
 
 -- by what the script asks for
 abbrev pub MovesBehind : Stage → Reply → List TxnId → Type 0
-MovesBehind (stage.Isolated audit version) answer ahead = MovesHalves answer ahead
+MovesBehind (stage.Open audit (Isolated version)) answer ahead = MovesHalves answer ahead
 MovesBehind other answer ahead = MovesTxns answer ahead
 
 -- Once an engine is open: the reply is true of what was accepted by then, and puts these behind what is gone. Before, there are none.

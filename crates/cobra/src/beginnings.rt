@@ -1,94 +1,55 @@
 //! How a script begins.
 ghost use Rattle.std.specs.Prelude.{◌≡◌, ◌≢◌, IfErr, OnOk};
 ghost use Rattle.txn.specs.declared.refusals.Refusal.{Refusal};
-ghost use Rattle.round_state.specs.Opening.{IsSessions};
-ghost use Rattle.cobra.specs.Scripts.{AreVersionSessions, IsLimitWithin, IsBeginningRefusal, IsIsolatedLimit, IsIsolatedRefusal, IsVersionLimit, IsVersionRefusal, Opens, OpensIsolated, OpensStrict, Resumes, AnswersFirst, BeginsAnew};
+ghost use Rattle.cobra.specs.Scripts.{MayBegin, MayRemain, IsBeginningRefusal, Opens, OpensStrict, Resumes, Starts, AnswersFirst, BeginsAnew, room_of};
 ghost use Rattle.cobra.specs.declared.stages.Stage.{Stage};
-ghost use Rattle.log_text.specs.declared.versions.Opening.{Opening};
 
 use crate::audits::Audit;
 use crate::open_engine::OpenEngine;
 use crate::stages::Stage;
-use log_text::{Command, Opening, Reply, Version};
+use log_text::{Command, Opening, Promise, Reply, Version};
 use round_state::is_sessions;
 use std::alloc::Global;
 use strict_offers::Offered;
 use txn::Refusal;
 
-/// Whether a script may begin with these numbers, where there may be at most so many sessions, and at most so many transactions may be let remain.
-fn may_begin(many: u64, most: u64, sessions: u64, limit: u64) -> Result<(), Refusal>
-    ensures ok { OnOk result (IsSessions many sessions × IsLimitWithin most limit) }
-    ensures err { IfErr result (IsBeginningRefusal many most sessions limit) }
+/// Whether a script that is opened for this may begin with these numbers.
+pub fn may_begin(opening: Opening, sessions: u64, limit: u64) -> Result<(), Refusal>
+    ensures ok { OnOk result (MayBegin opening sessions limit) }
+    ensures err { IfErr result (IsBeginningRefusal opening sessions limit) }
     ensures memory { IfErr result (λ refusal. refusal ≢ Refusal.NoMemory) }
 {
-    if !is_sessions(many, sessions) {
+    if !is_sessions(opening.version().most_sessions(), sessions) {
         return Err(Refusal::BadSession);
     }
-    if limit < 1 || limit > most {
+    if limit < 1 || limit > opening.most_remaining() {
         return Err(Refusal::TooLong);
     }
     Ok(())
 }
 
-/// Whether a script of this version may begin with these numbers.
-pub fn may_begin_ordered(version: Version, sessions: u64, limit: u64) -> Result<(), Refusal>
-    ensures ok { OnOk result (AreVersionSessions version sessions × IsVersionLimit version limit) }
-    ensures err { IfErr result (IsVersionRefusal version sessions limit) }
-    ensures memory { IfErr result (λ refusal. refusal ≢ Refusal.NoMemory) }
+/// For how many transactions an engine has room: for two of each, where they are split.
+pub fn room_of(opening: Opening, limit: u64) -> u64
+    requires { MayRemain opening limit }
+    ensures { result ≡ room_of opening limit }
 {
-    may_begin(
-        version.most_sessions(),
-        version.greatest_limit(),
-        sessions,
-        limit,
-    )
+    match opening {
+        Opening::Ordered(_) => limit,
+        Opening::Isolated(_) => 2 * limit,
+    }
 }
 
-/// The same, where each transaction is split.
-pub fn may_begin_isolated(version: Version, sessions: u64, limit: u64) -> Result<(), Refusal>
-    ensures ok { OnOk result (AreVersionSessions version sessions × IsIsolatedLimit version limit) }
-    ensures err { IfErr result (IsIsolatedRefusal version sessions limit) }
-    ensures memory { IfErr result (λ refusal. refusal ≢ Refusal.NoMemory) }
+fn open(alloc: Global, sessions: u64, limit: u64, opening: Opening) -> (Reply, Option<Stage>)
+    ensures { Opens sessions limit opening result.0 result.1 }
 {
-    may_begin(
-        version.most_sessions(),
-        version.greatest_split_limit(),
-        sessions,
-        limit,
-    )
-}
-
-fn open(alloc: Global, sessions: u64, limit: u64, version: Version) -> (Reply, Option<Stage>)
-    ensures { Opens sessions limit version result.0 result.1 }
-{
-    if let Err(refusal) = may_begin_ordered(version, sessions, limit) {
+    if let Err(refusal) = may_begin(opening, sessions, limit) {
         return (Reply::No(refusal), None);
     }
-    match OpenEngine::open(alloc, version.most_sessions(), sessions, limit) {
+    let most = opening.version().most_sessions();
+    match OpenEngine::open(alloc, most, sessions, room_of(opening, limit)) {
         Ok(engine) => {
             let audit = Audit::new(engine);
-            (Reply::Done, Some(Stage::Open { audit, version }))
-        }
-        Err(refusal) => (Reply::No(refusal), None),
-    }
-}
-
-/// Opens an engine whose transactions are split: it has room for two of each.
-fn open_isolated(
-    alloc: Global,
-    sessions: u64,
-    limit: u64,
-    version: Version,
-) -> (Reply, Option<Stage>)
-    ensures { OpensIsolated sessions limit version result.0 result.1 }
-{
-    if let Err(refusal) = may_begin_isolated(version, sessions, limit) {
-        return (Reply::No(refusal), None);
-    }
-    match OpenEngine::open(alloc, version.most_sessions(), sessions, 2 * limit) {
-        Ok(engine) => {
-            let audit = Audit::new(engine);
-            (Reply::Done, Some(Stage::Isolated { audit, version }))
+            (Reply::Done, Some(Stage::Open { audit, opening }))
         }
         Err(refusal) => (Reply::No(refusal), None),
     }
@@ -98,7 +59,7 @@ fn open_isolated(
 fn open_strict(alloc: Global, sessions: u64, limit: u64, version: Version) -> (Reply, Option<Stage>)
     ensures { OpensStrict sessions limit version result.0 result.1 }
 {
-    if let Err(refusal) = may_begin_ordered(version, sessions, limit) {
+    if let Err(refusal) = may_begin(Opening::Ordered(version), sessions, limit) {
         return (Reply::No(refusal), None);
     }
     match Offered::open(alloc, version.most_sessions(), sessions, limit) {
@@ -107,42 +68,27 @@ fn open_strict(alloc: Global, sessions: u64, limit: u64, version: Version) -> (R
     }
 }
 
-fn begin_ordered(sessions: u64, limit: u64, version: Version) -> (Reply, Option<Stage>)
-    ensures { Resumes sessions limit (Opening.Ordered version) result.0 result.1 }
+fn start(alloc: Global, sessions: u64, limit: u64, promise: Promise) -> (Reply, Option<Stage>)
+    ensures { Starts sessions limit promise result.0 result.1 }
 {
-    if let Err(refusal) = may_begin_ordered(version, sessions, limit) {
-        return (Reply::No(refusal), None);
+    match promise {
+        Promise::Resumable(opening) => open(alloc, sessions, limit, opening),
+        Promise::Strict(version) => open_strict(alloc, sessions, limit, version),
     }
-    let begun = Stage::Resuming {
-        sessions,
-        limit,
-        opening: Opening::Ordered(version),
-    };
-    (Reply::Done, Some(begun))
-}
-
-/// Of parts with room for two of each transaction.
-fn begin_isolated(sessions: u64, limit: u64, version: Version) -> (Reply, Option<Stage>)
-    ensures { Resumes sessions limit (Opening.Isolated version) result.0 result.1 }
-{
-    if let Err(refusal) = may_begin_isolated(version, sessions, limit) {
-        return (Reply::No(refusal), None);
-    }
-    let begun = Stage::Resuming {
-        sessions,
-        limit: 2 * limit,
-        opening: Opening::Isolated(version),
-    };
-    (Reply::Done, Some(begun))
 }
 
 fn begin_hand_over(sessions: u64, limit: u64, opening: Opening) -> (Reply, Option<Stage>)
     ensures { Resumes sessions limit opening result.0 result.1 }
 {
-    match opening {
-        Opening::Ordered(version) => begin_ordered(sessions, limit, version),
-        Opening::Isolated(version) => begin_isolated(sessions, limit, version),
+    if let Err(refusal) = may_begin(opening, sessions, limit) {
+        return (Reply::No(refusal), None);
     }
+    let begun = Stage::Resuming {
+        sessions,
+        limit: room_of(opening, limit),
+        opening,
+    };
+    (Reply::Done, Some(begun))
 }
 
 /// The reply where no engine is open, and the stage that begins, where one does.
@@ -153,18 +99,8 @@ pub(crate) fn answer_first(alloc: Global, command: Command) -> (Reply, Option<St
         Command::Start {
             sessions,
             limit,
-            version,
-        } => open(alloc, sessions, limit, version),
-        Command::StartIsolated {
-            sessions,
-            limit,
-            version,
-        } => open_isolated(alloc, sessions, limit, version),
-        Command::StartStrict {
-            sessions,
-            limit,
-            version,
-        } => open_strict(alloc, sessions, limit, version),
+            promise,
+        } => start(alloc, sessions, limit, promise),
         Command::Resume {
             sessions,
             limit,

@@ -21,7 +21,7 @@ mod stages;
 mod strict;
 
 pub use background_search::Solvers;
-pub use beginnings::{may_begin_isolated, may_begin_ordered};
+pub use beginnings::{may_begin, room_of};
 pub use byte_lines::{
     ByteSink, ByteSource, DeviceFault, Exit, Failure, LONGEST_LINE, LineReader, MemorySink,
     MemorySource, Next, Pace, ReaderSource, StandardInput, StandardOutput, WriterSink, write_all,

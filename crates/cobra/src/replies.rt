@@ -1,7 +1,7 @@
 ghost use Rattle.std.specs.Prelude.{◌≡◌, IfOk};
 ghost use Rattle.cobra.specs.StepReplies.{claim_of, report_of, cut_of, reply_of};
 
-use log_text::{Reply, Shown};
+use log_text::{Names, Reply, Shown};
 use round_state::{Certificate, Claim, Report, StepReply};
 use settle::Cut;
 use std::alloc::Global;
@@ -29,12 +29,14 @@ pub fn report_of(report: Report) -> Reply
     } = report;
     match certificate {
         Certificate::Order(order) => Reply::Order {
+            names: Names::Ids,
             round,
             kind,
             counts,
             order,
         },
         Certificate::Refuted(tree) => Reply::Violated {
+            names: Names::Ids,
             round,
             counts,
             tree,

@@ -1,6 +1,6 @@
 //! How one that was saved is handed over, line by line, until it goes on.
 ghost use Rattle.std.specs.Prelude.{◌≡◌, IfOk};
-ghost use Rattle.cobra.specs.Scripts.{IsTakenIn, BeginsAnew, AnswersResuming, AnswersHanding, HandsMarks, HandsWriters, HandsOffer, EndsHandOver, TakesHalves, TakesMarks, TakesOver, opened, version_of};
+ghost use Rattle.cobra.specs.Scripts.{IsTakenIn, BeginsAnew, AnswersResuming, AnswersHanding, HandsMarks, HandsWriters, HandsOffer, EndsHandOver, TakesHalves, TakesMarks, TakesOver};
 ghost use Rattle.cobra.specs.declared.stages.Stage.{Stage};
 ghost use Rattle.log_text.specs.declared.commands.Command.{Command};
 ghost use Rattle.log_text.specs.declared.versions.Version.{Version};
@@ -53,15 +53,6 @@ fn leave_handing(
     }
 }
 
-/// The version in whose lines something is opened.
-fn version_of(opening: Opening) -> Version
-    ensures { result ≡ version_of opening }
-{
-    match opening {
-        Opening::Ordered(version) | Opening::Isolated(version) => version,
-    }
-}
-
 fn hand_marks(
     alloc: Global,
     sessions: u64,
@@ -72,7 +63,7 @@ fn hand_marks(
 ) -> (Reply, Stage)
     ensures { HandsMarks sessions limit opening marks closed result.0 result.1 }
 {
-    let most = version_of(opening).most_sessions();
+    let most = opening.version().most_sessions();
     match Handing::new(alloc, most, sessions, limit, marks, closed) {
         Ok(handed) => (Reply::Done, Stage::Handing { handed, opening }),
         Err(refusal) => {
@@ -214,22 +205,13 @@ fn hand_offer(handed: Handing, opening: Opening, logged: LoggedFragment) -> (Rep
     hand_fragment(handed, opening, fragment)
 }
 
-fn opened(opening: Opening, audit: Audit) -> Stage
-    ensures { result ≡ opened opening audit }
-{
-    match opening {
-        Opening::Ordered(version) => Stage::Open { audit, version },
-        Opening::Isolated(version) => Stage::Isolated { audit, version },
-    }
-}
-
 fn end_hand_over(alloc: Global, handed: Handing, opening: Opening) -> (Reply, Stage)
     ensures { EndsHandOver handed opening result.0 result.1 }
 {
     match handed.resume(alloc) {
         Ok(engine) => {
             let audit = Audit::new(engine);
-            (Reply::Done, opened(opening, audit))
+            (Reply::Done, Stage::Open { audit, opening })
         }
         Err((handed, refusal)) => (Reply::No(refusal), Stage::Handing { handed, opening }),
     }

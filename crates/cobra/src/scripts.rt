@@ -5,7 +5,7 @@ ghost use Rattle.order_check.specs.Effort.{IsEffort};
 ghost use Rattle.round_state.specs.Runs as runs;
 ghost use Rattle.cobra.specs.Held.{AsksWithin, HasAtMost, IsLight};
 ghost use Rattle.cobra.specs.Outputs.{Asks, IsTold, AnswersNext, RepliesTo};
-ghost use Rattle.cobra.specs.Scripts.{IsStep, AnswersOpen, AnswersBeside, AnswersIsolated, FinishesAlone, Answers, search_after};
+ghost use Rattle.cobra.specs.Scripts.{IsStep, AnswersOpen, AnswersBeside, AnswersIn, AnswersIsolated, FinishesAlone, Answers, search_after};
 ghost use Rattle.cobra.specs.declared.stages.Stage.{Stage};
 
 use crate::audits::Audit;
@@ -20,7 +20,7 @@ use crate::strict::answer_strict;
 use background_search::{Effort, Solvers};
 use byte_lines::Next;
 use isolation_scripts::{isolated_of, split_command};
-use log_text::{Command, Names, Reply, Search, Version, read_line_within, write_reply};
+use log_text::{Command, Names, Opening, Reply, Search, Version, read_line_within, write_reply};
 use logged_fragments::LoggedFragment;
 use polygraph::{PlainSolver, Solver};
 use round_state::Step;
@@ -193,8 +193,6 @@ fn answer_open<'s, E, R: Threads, P: PlainSolver + Sync, S: Solver + Sync>(
         Command::Show => state_told(alloc, audit.engine()),
         Command::Save(wanted) => saved_told(alloc, audit.engine(), wanted),
         Command::Start { .. }
-        | Command::StartIsolated { .. }
-        | Command::StartStrict { .. }
         | Command::OfferTimed { .. }
         | Command::Resume { .. }
         | Command::Marks { .. }
@@ -225,6 +223,24 @@ fn answer_isolated<'s, E, R: Threads, P: PlainSolver + Sync, S: Solver + Sync>(
     }
 }
 
+/// The reply to a command of a script whose engine is open.
+fn answer_in<'s, E, R: Threads, P: PlainSolver + Sync, S: Solver + Sync>(
+    audit: &mut Audit,
+    means: &Means<'_, 's, E, R, P, S>,
+    opening: Opening,
+    command: Command,
+) -> Result<Reply, NoMemory>
+    requires plain { P.ready }
+    requires guided { S.ready }
+    requires limits { HasLimits command }
+    ensures { IfOk result (λ answer. AnswersIn opening audit.old command answer audit.new) }
+{
+    match opening {
+        Opening::Ordered(version) => answer_open(audit, means, version, command),
+        Opening::Isolated(version) => answer_isolated(audit, means, version, command),
+    }
+}
+
 /// The reply to a command, and how far the script is then.
 fn answered<'s, E, R: Threads, P: PlainSolver + Sync, S: Solver + Sync>(
     means: &Means<'_, 's, E, R, P, S>,
@@ -245,15 +261,10 @@ fn answered<'s, E, R: Threads, P: PlainSolver + Sync, S: Solver + Sync>(
             opening,
         } => answer_resuming(alloc, sessions, limit, opening, command),
         Stage::Handing { handed, opening } => answer_handing(alloc, handed, opening, command),
-        Stage::Open { audit, version } => {
+        Stage::Open { audit, opening } => {
             let mut audit = audit;
-            let reply = answer_open(&mut audit, means, version, command)?;
-            Ok((reply, Stage::Open { audit, version }))
-        }
-        Stage::Isolated { audit, version } => {
-            let mut audit = audit;
-            let reply = answer_isolated(&mut audit, means, version, command)?;
-            Ok((reply, Stage::Isolated { audit, version }))
+            let reply = answer_in(&mut audit, means, opening, command)?;
+            Ok((reply, Stage::Open { audit, opening }))
         }
         Stage::Strict { offered, version } => {
             let mut offered = offered;

@@ -27,15 +27,10 @@ pub(crate) enum Stage {
         handed: Handing,
         opening: Opening,
     },
-    /// An engine is open, for lines of this version; a search may go on beside them.
+    /// An engine is open, for lines that ask for this; a search may go on beside them.
     Open {
         audit: Audit,
-        version: Version,
-    },
-    /// An engine is open whose transactions are split, for lines of this version that ask for snapshot isolation.
-    Isolated {
-        audit: Audit,
-        version: Version,
+        opening: Opening,
     },
     /// What is offered with its times is taken, for lines of this version that ask for strict serializability.
     Strict {
@@ -50,7 +45,7 @@ impl Stage {
         ensures { result ≡ names_at self.now }
     {
         match self {
-            Stage::Isolated { .. } => Names::Events,
+            Stage::Open { opening, .. } => opening.names(),
             _ => Names::Ids,
         }
     }

@@ -1,8 +1,9 @@
 -- How replies of an auditor whose transactions are split are told of what was offered.
 use Rattle.std.specs.Prelude.{ℕ, ◌+◌, ◌/◌, ◌%◌, ◌^◌, Bool, cond, List, filter, length, map, nat_eq, nat_lt}
 use Rattle.txn.specs.declared.transactions.TxnId.{TxnId}
+use Rattle.log_text.specs.declared.names.Names.TheVariants.{Events}
 use Rattle.log_text.specs.declared.replies.Reply.{Reply}
-use Rattle.log_text.specs.declared.replies.Reply.TheVariants.{Order, Violated, Events, Broken, Spent, Cut, Show, Saved}
+use Rattle.log_text.specs.declared.replies.Reply.TheVariants.{Order, Violated, Spent, Cut, Show, Saved}
 use Rattle.log_text.specs.declared.saved.Saved as given
 use Rattle.log_text.specs.declared.saved.Saved.TheVariants.{Marks, MarksBegun, Last, Offer}
 use Rattle.isolation_histories.specs.Split.{plain_key}
@@ -42,8 +43,8 @@ given_of saved = saved
 -- Orders are told as begins and commits, and trees by these; ids and counts are those of transactions as they were offered. One of which the
 -- begin alone is gone remains.
 abbrev pub isolated_of : Reply → Reply
-isolated_of (Order round kind counts order) = Events round kind (halved counts) order
-isolated_of (Violated round counts tree) = Broken round (halved counts) tree
+isolated_of (Order names round kind counts order) = Order Events round kind (halved counts) order
+isolated_of (Violated names round counts tree) = Violated Events round (halved counts) tree
 isolated_of (Spent round counts) = Spent round (halved counts)
 isolated_of (Cut fence gone last) = Cut (whole_of fence) (committed gone) (own_writers last)
 isolated_of (Show marks received closed last remaining) = Show (halved marks) (halved received) closed (own_writers last) ((remaining + half_gone marks) / 2)

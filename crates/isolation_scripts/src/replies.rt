@@ -4,7 +4,7 @@ ghost use Rattle.isolation_scripts.specs.Isolated.{halved, committed, own_writer
 
 use crate::wholes::{whole_fragment, whole_of};
 use isolation_histories::plain_key;
-use log_text::{Reply, Saved};
+use log_text::{Names, Reply, Saved};
 use std::alloc::Global;
 use txn::{NoMemory, Sequence, TxnId};
 
@@ -139,21 +139,25 @@ pub fn isolated_of(alloc: Global, reply: Reply) -> Result<Reply, NoMemory>
 {
     match reply {
         Reply::Order {
+            names: _,
             round,
             kind,
             counts,
             order,
-        } => Ok(Reply::Events {
+        } => Ok(Reply::Order {
+            names: Names::Events,
             round,
             kind,
             counts: halved(alloc, counts.as_slice())?,
             order,
         }),
         Reply::Violated {
+            names: _,
             round,
             counts,
             tree,
-        } => Ok(Reply::Broken {
+        } => Ok(Reply::Violated {
+            names: Names::Events,
             round,
             counts: halved(alloc, counts.as_slice())?,
             tree,

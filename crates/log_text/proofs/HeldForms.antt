@@ -9,17 +9,14 @@ use Rattle.txn.specs.declared.transactions.Txn.{Txn}
 use Rattle.logged_fragments.specs.declared.logged.LoggedFragment.{LoggedFragment}
 use Rattle.log_text.specs.Items.{alone, one_item, two_items, three_items, with_both, with_three, list_of, each_of}
 use Rattle.log_text.specs.Numbers.{whole_number, session_of}
-use Rattle.log_text.specs.Commands.{txn_of, fragment_of, offer_in, times_in, join_in, start_of, start_in, resume_in, effort_in, waits_in, begun_in, closed_in, marks_in, last_in, flag_of, writer_of, save_in, command_named}
+use Rattle.log_text.specs.Commands.{txn_of, fragment_of, offer_in, times_in, join_in, start_in, resume_in, effort_in, waits_in, begun_in, closed_in, marks_in, last_in, flag_of, writer_of, save_in, command_named}
 use Rattle.log_text.specs.Held.{held}
 use Rattle.log_text.specs.Kept.{kept, txns_of, made, offered_within, behind_of, joined_by, joined_within}
 use Rattle.log_text.specs.Lines.{plain_named}
 use Rattle.log_text.specs.Streams.{AreRead}
 use Rattle.log_text.specs.Versions.{opening_in, promise_in}
-use Rattle.log_text.specs.declared.versions.Opening.TheVariants.{Ordered, Isolated}
-use Rattle.log_text.specs.declared.versions.Promise.{Promise}
-use Rattle.log_text.specs.declared.versions.Promise.TheVariants.{Resumable, Strict}
 use Rattle.log_text.specs.declared.commands.Command.{Command}
-use Rattle.log_text.specs.declared.commands.Command.TheVariants.{Offer, OfferTimed, Join, Resume, MarksBegun, Last}
+use Rattle.log_text.specs.declared.commands.Command.TheVariants.{Start, Offer, OfferTimed, Join, Resume, MarksBegun, Last}
 use Rattle.log_text.specs.declared.fragments.Behind.{Behind}
 use Rattle.log_text.specs.declared.fragments.Behind.TheVariants.{First, Txns}
 use Rattle.log_text.proofs.TokensRead.{are_read, are_read_map, same_form, deeper_items}
@@ -185,15 +182,10 @@ module _ (n : ℕ) where
   alone_kept command same no_items = ap Some same
   alone_kept command same (item a rest) = refl
 
-  start_same : (sessions limit : ℕ) (promise : Promise) → held (Some n) (start_of sessions limit promise) ≡ start_of sessions limit promise
-  start_same sessions limit (Resumable (Ordered version)) = refl
-  start_same sessions limit (Resumable (Isolated version)) = refl
-  start_same sessions limit (Strict version) = refl
-
   start_kept : (parts : Items) → IsKept (start_in parts)
   start_kept no_items = refl
   start_kept (item a no_items) = refl
-  start_kept (item a (item b behind)) = kept_three start_of start_same (whole_number a) (whole_number b) (promise_in behind)
+  start_kept (item a (item b behind)) = kept_three Start (λ x y z. refl) (whole_number a) (whole_number b) (promise_in behind)
 
   resume_kept : (parts : Items) → IsKept (resume_in parts)
   resume_kept no_items = refl

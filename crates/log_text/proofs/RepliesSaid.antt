@@ -6,28 +6,24 @@ use Rattle.serde_json.specs.Read.{read, max_depth}
 use Rattle.txn.specs.declared.transactions.TxnId.{TxnId}
 use Rattle.log_text.specs.ReadBack.{SaysReply}
 use Rattle.log_text.specs.Saved.{number_data, writer_data}
-use Rattle.log_text.specs.Told.{array_data, id_data, named_id_data, reply_data}
-use Rattle.log_text.specs.declared.names.Names.TheVariants.{Ids, Events}
+use Rattle.log_text.specs.Told.{array_data, named_id_data, reply_data}
+use Rattle.log_text.specs.declared.names.Names.{Names}
+use Rattle.log_text.specs.declared.names.Names.TheVariants.{Ids}
 use Rattle.log_text.specs.declared.replies.Reply.{Reply}
 use Rattle.log_text.specs.declared.replies.Reply.TheVariants as reply
 use Rattle.log_text.proofs.SavedRead.{flag_depth, list_depth, number_depth, saved_depth, writer_depth}
 use Rattle.log_text.proofs.TreesRead.{name_flat, nodes_depth}
 
-id_depth : (id : TxnId) → depth (id_data id) ≤ 1
-id_depth id = list_depth number_data 0 number_depth (id.session ∷ id.number ∷ [])
-
-event_depth : (half : TxnId) → depth (named_id_data Events half) ≤ 1
-event_depth half = omega (arith, name_flat Events half)
+name_depth : (names : Names) (id : TxnId) → depth (named_id_data names id) ≤ 1
+name_depth names id = omega (arith, name_flat names id)
 
 reply_depth : (given : Reply) → depth (array_data (reply_data given)) ≤ 127
 reply_depth reply.Done = omega arith
 reply_depth (reply.No refusal) = omega arith
-reply_depth (reply.Order round kind counts order) = omega (arith, list_depth number_data 0 number_depth counts, list_depth id_data 1 id_depth order)
-reply_depth (reply.Violated round counts tree) = omega (arith, list_depth number_data 0 number_depth counts, nodes_depth Ids tree)
-reply_depth (reply.Events round kind counts order) = omega (arith, list_depth number_data 0 number_depth counts, list_depth (named_id_data Events) 1 event_depth order)
-reply_depth (reply.Broken round counts tree) = omega (arith, list_depth number_data 0 number_depth counts, nodes_depth Events tree)
+reply_depth (reply.Order names round kind counts order) = omega (arith, list_depth number_data 0 number_depth counts, list_depth (named_id_data names) 1 (name_depth names) order)
+reply_depth (reply.Violated names round counts tree) = omega (arith, list_depth number_data 0 number_depth counts, nodes_depth names tree)
 reply_depth (reply.Spent round counts) = omega (arith, list_depth number_data 0 number_depth counts)
-reply_depth (reply.Cut fence gone last) = omega (arith, id_depth fence, list_depth id_data 1 id_depth gone, list_depth writer_data 1 writer_depth last)
+reply_depth (reply.Cut fence gone last) = omega (arith, name_depth Ids fence, list_depth (named_id_data Ids) 1 (name_depth Ids) gone, list_depth writer_data 1 writer_depth last)
 reply_depth (reply.Show marks received closed last remaining) =
     omega (arith, list_depth number_data 0 number_depth marks, list_depth number_data 0 number_depth received, list_depth boolean 0 flag_depth closed, list_depth writer_data 1 writer_depth last)
 reply_depth (reply.Saved saved) = saved_depth saved

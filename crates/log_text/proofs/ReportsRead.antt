@@ -21,7 +21,6 @@ use Rattle.log_text.specs.Shown.{id_of, Shows, ShowsAs, Reports, IsReportOf, Sho
 use Rattle.log_text.specs.Saved.{list_data}
 use Rattle.log_text.specs.Told.{array_data, named_id_data, report_data, reply_data, tree_data}
 use Rattle.log_text.specs.declared.names.Names.{Names}
-use Rattle.log_text.specs.declared.names.Names.TheVariants.{Ids, Events}
 use Rattle.log_text.proofs.SameTrees.{same_tree}
 use Rattle.log_text.proofs.SavedRead.{each_read}
 use Rattle.log_text.proofs.TreesRead.{name_read, nodes_read}
@@ -60,33 +59,20 @@ nothing_back names bytes round counts says shown shows =
 found_back : (names : Names) (bytes : List ℕ) (found it : Option Shown) → found ≡ it → (CanBeRead names it → IsShownIn names bytes it) → CanBeRead names found → IsShownIn names bytes found
 found_back names bytes found it same back = subst (λ (f : Option Shown). CanBeRead names f → IsShownIn names bytes f) (sym same) back
 
-by_ids : StarsAreOfKeys → (bytes : List ℕ) (given : Reply) → SaysReply bytes given → HasKindOfOrder given → (found : Option Shown) → ReportsThat Ids given found → CanBeRead Ids found → IsShownIn Ids bytes found
-by_ids stars bytes (reply.Order round kind.Serial counts order) says of found same =
-    found_back Ids bytes found (Some (Order order)) same (order_back Ids bytes round kind.Serial counts order says.utf8 says.reads (inl refl))
-by_ids stars bytes (reply.Order round kind.Pending counts order) says of found same =
-    found_back Ids bytes found (Some (Order order)) same (order_back Ids bytes round kind.Pending counts order says.utf8 says.reads (inr refl))
-by_ids stars bytes (reply.Violated round counts tree) says of found same =
-    found_back Ids bytes found (Some (Refuted tree)) same (tree_back stars Ids bytes round counts tree says.utf8 says.reads)
-by_ids stars bytes (reply.Spent round counts) says of found same = found_back Ids bytes found None same (λ named. nothing_back Ids bytes round counts says)
-by_ids stars bytes (reply.Order round kind.Violated counts order) says of found same = absurd of
-by_ids stars bytes (reply.Order round kind.Spent counts order) says of found same = absurd of
-by_ids stars bytes given says of found same = absurd same
-
-by_events : StarsAreOfKeys → (bytes : List ℕ) (given : Reply) → SaysReply bytes given → HasKindOfOrder given → (found : Option Shown) → ReportsThat Events given found → CanBeRead Events found → IsShownIn Events bytes found
-by_events stars bytes (reply.Events round kind.Serial counts order) says of found same =
-    found_back Events bytes found (Some (Order order)) same (order_back Events bytes round kind.Serial counts order says.utf8 says.reads (inl refl))
-by_events stars bytes (reply.Events round kind.Pending counts order) says of found same =
-    found_back Events bytes found (Some (Order order)) same (order_back Events bytes round kind.Pending counts order says.utf8 says.reads (inr refl))
-by_events stars bytes (reply.Broken round counts tree) says of found same =
-    found_back Events bytes found (Some (Refuted tree)) same (tree_back stars Events bytes round counts tree says.utf8 says.reads)
-by_events stars bytes (reply.Spent round counts) says of found same = found_back Events bytes found None same (λ named. nothing_back Events bytes round counts says)
-by_events stars bytes (reply.Events round kind.Violated counts order) says of found same = absurd of
-by_events stars bytes (reply.Events round kind.Spent counts order) says of found same = absurd of
-by_events stars bytes given says of found same = absurd same
-
 pub report_back : StarsAreOfKeys → (bytes : List ℕ) (given : Reply) → SaysReply bytes given → HasKindOfOrder given → (names : Names) (found : Option Shown) → ReportsThat names given found → CanBeRead names found → IsShownIn names bytes found
-report_back stars bytes given says of Ids = by_ids stars bytes given says of
-report_back stars bytes given says of Events = by_events stars bytes given says of
+report_back stars bytes (reply.Order named round kind.Serial counts order) says of names found same =
+    let told = subst (λ (n : Names). SaysReply bytes (reply.Order n round kind.Serial counts order)) same.0 says in
+    found_back names bytes found (Some (Order order)) same.1 (order_back names bytes round kind.Serial counts order told.utf8 told.reads (inl refl))
+report_back stars bytes (reply.Order named round kind.Pending counts order) says of names found same =
+    let told = subst (λ (n : Names). SaysReply bytes (reply.Order n round kind.Pending counts order)) same.0 says in
+    found_back names bytes found (Some (Order order)) same.1 (order_back names bytes round kind.Pending counts order told.utf8 told.reads (inr refl))
+report_back stars bytes (reply.Violated named round counts tree) says of names found same =
+    let told = subst (λ (n : Names). SaysReply bytes (reply.Violated n round counts tree)) same.0 says in
+    found_back names bytes found (Some (Refuted tree)) same.1 (tree_back stars names bytes round counts tree told.utf8 told.reads)
+report_back stars bytes (reply.Spent round counts) says of names found same = found_back names bytes found None same (λ named. nothing_back names bytes round counts says)
+report_back stars bytes (reply.Order named round kind.Violated counts order) says of names found same = absurd of
+report_back stars bytes (reply.Order named round kind.Spent counts order) says of names found same = absurd of
+report_back stars bytes given says of names found same = absurd same
 
 -- ---- nothing else is read
 

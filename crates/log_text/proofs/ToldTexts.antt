@@ -23,10 +23,10 @@ use Rattle.log_text.specs.Lists.{list_text, word_text, numbers_text}
 use Rattle.log_text.specs.Names.{event_texts, name_texts, key_told}
 use Rattle.log_text.specs.declared.names.Names.{Names}
 use Rattle.log_text.specs.declared.names.Names.TheVariants.{Ids, Events}
-use Rattle.log_text.specs.Replies.{id_text, event_text, writer_text, flag_text, report_parts, parts_of, text_of}
+use Rattle.log_text.specs.Replies.{name_text, writer_text, flag_text, report_parts, parts_of, text_of}
 use Rattle.log_text.specs.Saved.{number_data, list_data, writer_data}
 use Rattle.log_text.specs.Texts.{HasText, HaveTexts}
-use Rattle.log_text.specs.Told.{id_data, event_data, name_data, named_id_data, ends_data, keyed_data, reader_data, choice_data, arc_data, cycle_data, step_data, split_data, leaf_data, nodes_data, tree_data, report_data, reply_data}
+use Rattle.log_text.specs.Told.{event_data, name_data, named_id_data, ends_data, keyed_data, reader_data, choice_data, arc_data, cycle_data, step_data, split_data, leaf_data, nodes_data, tree_data, report_data, reply_data}
 use Rattle.log_text.specs.Trees.{ends_text, keyed_text, reader_text, choice_text, arc_text, cycle_text, side_number, step_text, split_text, leaf_text, tree_text}
 use Rattle.log_text.specs.Trees as trees
 use Rattle.log_text.proofs.SavedData.{have_texts, have_both, list_data_written, writer_written, saved_written}
@@ -34,9 +34,6 @@ use Rattle.log_text.proofs.ValueTexts.{number_written, flag_written, list_writte
 
 numbers_written : (numbers : List ℕ) → HasText (list_data number_data numbers) (numbers_text numbers)
 numbers_written numbers = list_data_written number_data decimal number_written numbers
-
-id_written : (id : TxnId) → HasText (id_data id) (id_text id)
-id_written id = numbers_written (id.session ∷ id.number ∷ [])
 
 event_written : (event : Event) → HaveTexts (items_of (event_data event)) (event_texts event)
 event_written (Begin id) = (number_written id.session, (number_written id.number, (begin_written, tt)))
@@ -46,8 +43,8 @@ name_told : (names : Names) (id : TxnId) → HaveTexts (items_of (name_data name
 name_told Ids id = (number_written id.session, (number_written id.number, tt))
 name_told Events half = event_written (event_at half)
 
-event_id_written : (half : TxnId) → HasText (named_id_data Events half) (event_text half)
-event_id_written half = list_written _ (name_texts Events half) (name_told Events half)
+id_written : (names : Names) (id : TxnId) → HasText (named_id_data names id) (name_text names id)
+id_written names id = list_written (items_of (name_data names id)) (name_texts names id) (name_told names id)
 
 ends_told : (names : Names) (from to : TxnId) → HaveTexts (items_of (name_data names from ++ name_data names to)) (name_texts names from ++ name_texts names to)
 ends_told names from to = have_both _ _ _ _ (name_told names from) (name_told names to)
@@ -113,13 +110,11 @@ reported round kind counts more texts behind = (report_written, (number_written 
 reply_written : (given : Reply) → HaveTexts (items_of (reply_data given)) (parts_of given)
 reply_written reply.Done = (ok_written, tt)
 reply_written (reply.No refusal) = (no_written, (number_written (number_of refusal), (name_written refusal, tt)))
-reply_written (reply.Order round kind counts order) = reported round kind counts (list_data id_data order ∷ []) (list_text (map id_text order) ∷ []) (list_data_written id_data id_text id_written order, tt)
-reply_written (reply.Violated round counts tree) = reported round kind.Violated counts (tree_data Ids tree ∷ []) (tree_text Ids tree ∷ []) (tree_written Ids tree, tt)
-reply_written (reply.Events round kind counts order) = reported round kind counts (list_data (named_id_data Events) order ∷ []) (list_text (map event_text order) ∷ []) (list_data_written (named_id_data Events) event_text event_id_written order, tt)
-reply_written (reply.Broken round counts tree) = reported round kind.Violated counts (tree_data Events tree ∷ []) (tree_text Events tree ∷ []) (tree_written Events tree, tt)
+reply_written (reply.Order names round kind counts order) = reported round kind counts (list_data (named_id_data names) order ∷ []) (list_text (map (name_text names) order) ∷ []) (list_data_written (named_id_data names) (name_text names) (id_written names) order, tt)
+reply_written (reply.Violated names round counts tree) = reported round kind.Violated counts (tree_data names tree ∷ []) (tree_text names tree ∷ []) (tree_written names tree, tt)
 reply_written (reply.Spent round counts) = reported round kind.Spent counts [] [] tt
 reply_written (reply.Cut fence gone last) =
-    (cut_written, (id_written fence, (list_data_written id_data id_text id_written gone, (list_data_written writer_data writer_text writer_written last, tt))))
+    (cut_written, (id_written Ids fence, (list_data_written (named_id_data Ids) (name_text Ids) (id_written Ids) gone, (list_data_written writer_data writer_text writer_written last, tt))))
 reply_written (reply.Show marks received closed last remaining) =
     (show_written, (numbers_written marks, (numbers_written received, (list_data_written boolean flag_text flag_written closed, (list_data_written writer_data writer_text writer_written last, (number_written remaining, tt))))))
 reply_written (reply.Saved given) = saved_written given

@@ -10,7 +10,7 @@ use Rattle.order_check.specs.Effort.{IsEffort}
 use Rattle.logged_fragments.specs.declared.logged.LoggedFragment.{LoggedFragment}
 use Rattle.log_text.specs.declared.commands.Command.{Command}
 use Rattle.log_text.specs.declared.commands.Effort.{Effort}
-use Rattle.log_text.specs.declared.commands.Command.TheVariants.{Start, StartIsolated, StartStrict, Offer, OfferTimed, Join, Close, Begin, Finish, Round, BeginSearch, Collect, Skip, Truncate, Rebuild, Show, Resume, Marks, MarksBegun, Last, Resumed, Save, Answer}
+use Rattle.log_text.specs.declared.commands.Command.TheVariants.{Start, Offer, OfferTimed, Join, Close, Begin, Finish, Round, BeginSearch, Collect, Skip, Truncate, Rebuild, Show, Resume, Marks, MarksBegun, Last, Resumed, Save, Answer}
 use Rattle.log_text.specs.declared.commands.Wanted.TheVariants as wanted
 use Rattle.log_text.specs.Items.{array_of, list_of, with_both, with_three, with_four, alone, one_item, two_items, three_items}
 use Rattle.log_text.specs.Numbers.{whole_number, number_within, session_of}
@@ -19,10 +19,6 @@ use Rattle.log_text.specs.Shown.{IsAnswer}
 use Rattle.log_text.specs.declared.names.Names.{Names}
 use Rattle.log_text.specs.declared.shown.Shown.{Shown}
 use Rattle.log_text.specs.Versions.{opening_in, promise_in}
-use Rattle.log_text.specs.declared.versions.Opening.{Opening}
-use Rattle.log_text.specs.declared.versions.Opening.TheVariants.{Ordered, Isolated}
-use Rattle.log_text.specs.declared.versions.Promise.{Promise}
-use Rattle.log_text.specs.declared.versions.Promise.TheVariants.{Resumable, Strict}
 
 -- "init"
 abbrev pub init_of : Data → Option Source
@@ -81,15 +77,9 @@ fragment_at = with_three fragment_of
 abbrev pub fragment_in : Items → Option LoggedFragment
 fragment_in = three_items fragment_of session_of whole_number (list_of txn_of)
 
--- a script that is opened for this
-abbrev pub start_of : ℕ → ℕ → Promise → Command
-start_of sessions limit (Resumable (Ordered version)) = Start sessions limit version
-start_of sessions limit (Resumable (Isolated version)) = StartIsolated sessions limit version
-start_of sessions limit (Strict version) = StartStrict sessions limit version
-
 -- ["open",sessions,limit], ["open",sessions,limit,2], ["open",sessions,limit,3], or with "snapshot" or "strict" behind 2 or 3
 abbrev pub start_in : Items → Option Command
-start_in (item sessions (item limit behind)) = with_three start_of (whole_number sessions) (whole_number limit) (promise_in behind)
+start_in (item sessions (item limit behind)) = with_three Start (whole_number sessions) (whole_number limit) (promise_in behind)
 start_in items = None
 
 -- what is offered, and behind it nothing, or when its transactions began and when they ended

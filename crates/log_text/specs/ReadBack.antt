@@ -19,7 +19,11 @@ use Rattle.log_text.specs.declared.replies.Reply.{Reply}
 use Rattle.log_text.specs.declared.replies.Reply.TheVariants as reply
 use Rattle.log_text.specs.declared.shown.Shown.{Shown}
 use Rattle.log_text.specs.declared.shown.Shown.TheVariants as shown
+use Rattle.log_text.specs.declared.saved.Saved.{Saved}
+use Rattle.log_text.specs.Commands.{IsCommand}
 use Rattle.log_text.specs.Refutations.{IsMerged}
+use Rattle.log_text.specs.Saved.{NamesSessions, handed_by}
+use Rattle.log_text.specs.Shown.{IsShownIn}
 use Rattle.log_text.specs.Told.{array_data, reply_data}
 
 -- The text is UTF-8, and `serde_json` reads it as the reply's data.
@@ -73,12 +77,18 @@ CanBeRead names (Some (shown.Refuted tree)) = NamesInTree names tree × IsMerged
 
 -- a report's reply shows this by these names, or nothing
 abbrev pub ReportsThat : Names → Reply → Option Shown → Type 0
-ReportsThat Ids (reply.Order round kind counts order) found = found ≡ Some (shown.Order order)
-ReportsThat Ids (reply.Violated round counts tree) found = found ≡ Some (shown.Refuted tree)
-ReportsThat Events (reply.Events round kind counts order) found = found ≡ Some (shown.Order order)
-ReportsThat Events (reply.Broken round counts tree) found = found ≡ Some (shown.Refuted tree)
+ReportsThat names (reply.Order named round kind counts order) found = (named ≡ names) × (found ≡ Some (shown.Order order))
+ReportsThat names (reply.Violated named round counts tree) found = (named ≡ names) × (found ≡ Some (shown.Refuted tree))
 ReportsThat names (reply.Spent round counts) found = found ≡ None
 ReportsThat names reply found = ⊥
+
+-- where the reply gives parts out, its text is a line of a hand-over that hands the same parts over
+abbrev pub HandsOverAgain : List ℕ → Reply → Type 0
+HandsOverAgain text given = (saved : Saved) → given ≡ reply.Saved saved → NamesSessions saved → (names : Names) → IsCommand names text (handed_by saved)
+
+-- where it is a report, what it shows is read from its text by the names that it is told by
+abbrev pub ShowsAgain : List ℕ → Reply → Type 0
+ShowsAgain text given = (names : Names) (found : Option Shown) → ReportsThat names given found → CanBeRead names found → IsShownIn names text found
 
 -- two trees are the same, wherever their halves are kept in memory
 abbrev pub IsSameTree : Tree → Tree → Type 0

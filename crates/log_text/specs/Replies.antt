@@ -14,15 +14,12 @@ use Rattle.log_text.specs.declared.saved.Saved.TheVariants as saved
 use Rattle.log_text.specs.Lists.{list_text, word_text, numbers_text}
 use Rattle.log_text.specs.Names.{name_texts}
 use Rattle.log_text.specs.Trees.{tree_text}
-use Rattle.log_text.specs.declared.names.Names.TheVariants.{Ids, Events}
+use Rattle.log_text.specs.declared.names.Names.{Names}
+use Rattle.log_text.specs.declared.names.Names.TheVariants.{Ids}
 
--- an id: [session,number]
-abbrev pub id_text : TxnId → List ℕ
-id_text id = numbers_text (id.session ∷ id.number ∷ [])
-
--- the event that a transaction of a split history stands for: [session,number,"begin"] or [session,number,"commit"]
-abbrev pub event_text : TxnId → List ℕ
-event_text half = list_text (name_texts Events half)
+-- an id: [session,number]; or the event that a transaction of a split history stands for: [session,number,"begin"] or [session,number,"commit"]
+abbrev pub name_text : Names → TxnId → List ℕ
+name_text names id = list_text (name_texts names id)
 
 -- a key's last writer: [key,session,number]
 abbrev pub writer_text : ℕ × TxnId → List ℕ
@@ -66,12 +63,10 @@ report_parts round kind counts = word_text (codes "report") ∷ decimal round �
 abbrev pub parts_of : Reply → List (List ℕ)
 parts_of reply.Done = word_text (codes "ok") ∷ []
 parts_of (reply.No refusal) = word_text (codes "no") ∷ decimal (number_of refusal) ∷ word_text (name_of refusal) ∷ []
-parts_of (reply.Order round kind counts order) = report_parts round kind counts ++ list_text (map id_text order) ∷ []
-parts_of (reply.Violated round counts tree) = report_parts round kind.Violated counts ++ tree_text Ids tree ∷ []
-parts_of (reply.Events round kind counts order) = report_parts round kind counts ++ list_text (map event_text order) ∷ []
-parts_of (reply.Broken round counts tree) = report_parts round kind.Violated counts ++ tree_text Events tree ∷ []
+parts_of (reply.Order names round kind counts order) = report_parts round kind counts ++ list_text (map (name_text names) order) ∷ []
+parts_of (reply.Violated names round counts tree) = report_parts round kind.Violated counts ++ tree_text names tree ∷ []
 parts_of (reply.Spent round counts) = report_parts round kind.Spent counts
-parts_of (reply.Cut fence gone last) = word_text (codes "cut") ∷ id_text fence ∷ list_text (map id_text gone) ∷ list_text (map writer_text last) ∷ []
+parts_of (reply.Cut fence gone last) = word_text (codes "cut") ∷ name_text Ids fence ∷ list_text (map (name_text Ids) gone) ∷ list_text (map writer_text last) ∷ []
 parts_of (reply.Show marks received closed last remaining) = word_text (codes "show") ∷ numbers_text marks ∷ numbers_text received ∷ list_text (map flag_text closed) ∷ list_text (map writer_text last) ∷ decimal remaining ∷ []
 parts_of (reply.Saved given) = saved_parts given
 parts_of reply.Searching = word_text (codes "searching") ∷ []
@@ -85,12 +80,8 @@ line_of reply = text_of reply ++ 10 ∷ []
 
 -- only a report that is serial or pending has an order
 abbrev pub HasKindOfOrder : Reply → Type 0
-HasKindOfOrder (reply.Order round kind.Serial counts order) = ⊤
-HasKindOfOrder (reply.Order round kind.Pending counts order) = ⊤
-HasKindOfOrder (reply.Order round kind.Violated counts order) = ⊥
-HasKindOfOrder (reply.Order round kind.Spent counts order) = ⊥
-HasKindOfOrder (reply.Events round kind.Serial counts order) = ⊤
-HasKindOfOrder (reply.Events round kind.Pending counts order) = ⊤
-HasKindOfOrder (reply.Events round kind.Violated counts order) = ⊥
-HasKindOfOrder (reply.Events round kind.Spent counts order) = ⊥
+HasKindOfOrder (reply.Order names round kind.Serial counts order) = ⊤
+HasKindOfOrder (reply.Order names round kind.Pending counts order) = ⊤
+HasKindOfOrder (reply.Order names round kind.Violated counts order) = ⊥
+HasKindOfOrder (reply.Order names round kind.Spent counts order) = ⊥
 HasKindOfOrder reply = ⊤

@@ -1,6 +1,6 @@
 -- Which lines hand an answer in: an order that is to explain what the open round is about, or a tree that is to refute it. And what the
 -- text of a report shows.
-use Rattle.std.specs.Prelude.{◌≡◌, ℕ, ◌⊎◌, List, Option, Some, None, IsUtf8, codes}
+use Rattle.std.specs.Prelude.{◌≡◌, ℕ, ◌⊎◌, List, Option, Some, None, MatchOption, IsUtf8, codes}
 use Rattle.serde_json.specs.Data.{Data, string, array, Items, no_items, item}
 use Rattle.serde_json.specs.Read.{read}
 use Rattle.txn.specs.declared.transactions.TxnId.{TxnId}
@@ -14,6 +14,10 @@ use Rattle.log_text.specs.declared.names.Names.{Names}
 -- a name: an array of its parts
 abbrev pub id_of : Names → Data → Option TxnId
 id_of names = array_of (id_in names)
+
+-- this is what is shown so, or nothing is
+abbrev pub ShownOrNone : (Shown → Type 0) → Option Shown → Type 0
+ShownOrNone IsSo found = MatchOption found ((shown : Shown) → ¬ IsSo shown) IsSo
 
 -- what is given shows this by these names, behind its word: "order" and a list of names, or "refuted" and a tree
 abbrev pub Shows : Names → Data → Data → Shown → Type 0

@@ -30,9 +30,6 @@ use Rattle.log_text.specs.Trees.{side_number}
 abbrev pub array_data : List Data → Data
 array_data parts = array (items_of parts)
 
-abbrev pub id_data : TxnId → Data
-id_data id = list_data number_data (id.session ∷ id.number ∷ [])
-
 -- a transaction's name: a session and a number; or these and a word
 abbrev pub event_data : Event → List Data
 event_data (Begin id) = number_data id.session ∷ number_data id.number ∷ string (codes "begin") ∷ []
@@ -93,12 +90,10 @@ report_data round kind counts = string (codes "report") ∷ number_data round �
 abbrev pub reply_data : Reply → List Data
 reply_data reply.Done = string (codes "ok") ∷ []
 reply_data (reply.No refusal) = string (codes "no") ∷ number_data (number_of refusal) ∷ string (name_of refusal) ∷ []
-reply_data (reply.Order round kind counts order) = report_data round kind counts ++ list_data id_data order ∷ []
-reply_data (reply.Violated round counts tree) = report_data round kind.Violated counts ++ tree_data Ids tree ∷ []
-reply_data (reply.Events round kind counts order) = report_data round kind counts ++ list_data (named_id_data Events) order ∷ []
-reply_data (reply.Broken round counts tree) = report_data round kind.Violated counts ++ tree_data Events tree ∷ []
+reply_data (reply.Order names round kind counts order) = report_data round kind counts ++ list_data (named_id_data names) order ∷ []
+reply_data (reply.Violated names round counts tree) = report_data round kind.Violated counts ++ tree_data names tree ∷ []
 reply_data (reply.Spent round counts) = report_data round kind.Spent counts
-reply_data (reply.Cut fence gone last) = string (codes "cut") ∷ id_data fence ∷ list_data id_data gone ∷ list_data writer_data last ∷ []
+reply_data (reply.Cut fence gone last) = string (codes "cut") ∷ named_id_data Ids fence ∷ list_data (named_id_data Ids) gone ∷ list_data writer_data last ∷ []
 reply_data (reply.Show marks received closed last remaining) = string (codes "show") ∷ list_data number_data marks ∷ list_data number_data received ∷ list_data boolean closed ∷ list_data writer_data last ∷ number_data remaining ∷ []
 reply_data (reply.Saved given) = saved_data given
 reply_data reply.Searching = string (codes "searching") ∷ []

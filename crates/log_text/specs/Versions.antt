@@ -8,6 +8,8 @@ use Rattle.log_text.specs.declared.versions.Version.TheVariants.{One, Two, Three
 use Rattle.log_text.specs.Numbers.{number_within}
 use Rattle.log_text.specs.declared.versions.Opening.{Opening}
 use Rattle.log_text.specs.declared.versions.Opening.TheVariants.{Ordered, Isolated}
+use Rattle.log_text.specs.declared.names.Names.{Names}
+use Rattle.log_text.specs.declared.names.Names.TheVariants.{Ids, Events}
 use Rattle.log_text.specs.declared.versions.Promise.{Promise}
 use Rattle.log_text.specs.declared.versions.Promise.TheVariants.{Resumable, Strict}
 
@@ -34,6 +36,21 @@ abbrev pub greatest_split_limit : Version → ℕ
 greatest_split_limit One = 2048
 greatest_split_limit Two = 2048
 greatest_split_limit Three = 524288
+
+-- the version in whose lines something is opened
+abbrev pub version_of : Opening → Version
+version_of (Ordered version) = version
+version_of (Isolated version) = version
+
+-- how lines name transactions then: by begins and commits where they are split, and else by ids
+abbrev pub names_of : Opening → Names
+names_of (Ordered version) = Ids
+names_of (Isolated version) = Events
+
+-- how many transactions may be let remain then
+abbrev pub most_remaining : Opening → ℕ
+most_remaining (Ordered version) = greatest_limit version
+most_remaining (Isolated version) = greatest_split_limit version
 
 -- the version that is told by a number, of 2 and 3
 abbrev pub version_numbered : ℕ → Version

@@ -5,12 +5,12 @@ ghost use Rattle.serde_json.specs.Data.{string};
 ghost use Rattle.log_text.specs.Items.{alone, one_item, two_items};
 ghost use Rattle.log_text.specs.Lines.{plain_named};
 ghost use Rattle.log_text.specs.Numbers.{whole_number, session_of};
-ghost use Rattle.log_text.specs.Commands.{start_of, start_in, close_in, effort_in, finish_in, round_in, begin_search_in, waits_by, waits_in, collect_in, resume_in, save_named, save_in, HasLimits};
+ghost use Rattle.log_text.specs.Commands.{start_in, close_in, effort_in, finish_in, round_in, begin_search_in, waits_by, waits_in, collect_in, resume_in, save_named, save_in, HasLimits};
 
 use crate::numbers::{number_within, session_of, whole_number};
 use crate::searches::{Search, search_in};
 use crate::shown::Shown;
-use crate::versions::{Opening, Promise, Version, opening_in, promise_in};
+use crate::versions::{Opening, Promise, opening_in, promise_in};
 use logged_fragments::LoggedFragment;
 use serde_json::Value;
 use txn::{Sequence, TxnId};
@@ -24,23 +24,11 @@ const MOST_WORKERS: u64 = 16;
 /// What a line of a script asks for.
 #[derive(Drop, Debug)]
 pub enum Command {
-    /// To open an engine, by lines of this version.
+    /// To open a script that is asked for this.
     Start {
         sessions: u64,
         limit: u64,
-        version: Version,
-    },
-    /// To open one that is asked for snapshot isolation, by lines of this version.
-    StartIsolated {
-        sessions: u64,
-        limit: u64,
-        version: Version,
-    },
-    /// To open a script that is asked for strict serializability of all that it offers, by lines of this version.
-    StartStrict {
-        sessions: u64,
-        limit: u64,
-        version: Version,
+        promise: Promise,
     },
     /// To take a fragment: it has a flag for each of its transactions, whether it is told to have aborted.
     Offer(LoggedFragment),
@@ -148,41 +136,17 @@ fn alone(command: Command, parts: &[Value]) -> Option<Command>
     }
 }
 
-fn start_of(sessions: u64, limit: u64, promise: Promise) -> Command
-    ensures form { result ≡ start_of sessions limit promise }
-    ensures limits { HasLimits result }
-{
-    match promise {
-        Promise::Resumable(Opening::Ordered(version)) => Command::Start {
-            sessions,
-            limit,
-            version,
-        },
-        Promise::Resumable(Opening::Isolated(version)) => Command::StartIsolated {
-            sessions,
-            limit,
-            version,
-        },
-        Promise::Strict(version) => Command::StartStrict {
-            sessions,
-            limit,
-            version,
-        },
-    }
-}
-
 #[tactic(auto, using(crate::proofs::Arity::start_none))]
 fn start_in(parts: &[Value]) -> Option<Command>
     ensures form { result ≡ start_in (items_view parts.now) }
     ensures limits { IfSome result HasLimits }
 {
     match parts {
-        [sessions, limit, behind @ ..] => {
-            let sessions = whole_number(sessions)?;
-            let limit = whole_number(limit)?;
-            let promise = promise_in(behind)?;
-            Some(start_of(sessions, limit, promise))
-        }
+        [sessions, limit, behind @ ..] => Some(Command::Start {
+            sessions: whole_number(sessions)?,
+            limit: whole_number(limit)?,
+            promise: promise_in(behind)?,
+        }),
         _ => None,
     }
 }

@@ -31,4 +31,4 @@ pub use replies::{Reply, write_reply};
 pub use saved::Saved;
 pub use searches::{Search, search_in, search_of};
 pub use shown::{Shown, read_shown};
-pub use versions::{Opening, Version, version_in};
+pub use versions::{Opening, Promise, Version, version_in};

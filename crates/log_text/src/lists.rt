@@ -1,7 +1,6 @@
 ghost use Rattle.std.specs.Prelude.{[], ◌∷◌, OnOk, map};
 ghost use Rattle.serde_json.specs.Data.{boolean, string};
 ghost use Rattle.log_text.specs.Saved.{GainsData, list_data, number_data, writer_data};
-ghost use Rattle.log_text.specs.Told.{id_data};
 
 use serde_json::Value;
 use std::alloc::Global;
@@ -51,25 +50,6 @@ pub(crate) fn push_flags(
     let mut list = Vec::new(alloc);
     for flag in flags {
         list.push(Value::from(*flag))?;
-    }
-    items.push(Value::Array(list))?;
-    Ok(())
-}
-
-/// Puts an id at the end of a list.
-pub(crate) fn push_id(alloc: Global, items: &mut Vec<Value>, id: TxnId) -> Result<(), NoMemory>
-    ensures { OnOk result (GainsData items.old.items items.new.items (id_data id ∷ [])) }
-{
-    push_numbers(alloc, items, &[u64::from(id.session), id.number])
-}
-
-/// Puts a list of ids at the end of a list.
-pub(crate) fn push_ids(alloc: Global, items: &mut Vec<Value>, ids: &[TxnId]) -> Result<(), NoMemory>
-    ensures { OnOk result (GainsData items.old.items items.new.items (list_data id_data ids.now ∷ [])) }
-{
-    let mut list = Vec::new(alloc);
-    for id in ids {
-        push_id(alloc, &mut list, *id)?;
     }
     items.push(Value::Array(list))?;
     Ok(())

@@ -4,7 +4,6 @@ ghost use Rattle.serde_json.specs.Data.{string};
 ghost use Rattle.log_text.specs.Names.{key_told};
 ghost use Rattle.log_text.specs.Saved.{GainsData, list_data, number_data};
 ghost use Rattle.log_text.specs.Told.{event_data, name_data, named_id_data};
-ghost use Rattle.log_text.specs.declared.names.Names.TheVariants.{Events};
 
 use crate::lists::{push_each, push_word};
 use isolation_histories::{Event, event_of, plain_key};
@@ -67,26 +66,33 @@ pub(crate) fn key_told(names: Names, key: u64) -> u64
     }
 }
 
-fn push_half(alloc: Global, items: &mut Vec<Value>, half: TxnId) -> Result<(), NoMemory>
-    ensures { OnOk result (GainsData items.old.items items.new.items (named_id_data Events half ∷ [])) }
+/// Puts a list at the end that is the transaction's name.
+pub(crate) fn push_named(
+    alloc: Global,
+    items: &mut Vec<Value>,
+    names: Names,
+    id: TxnId,
+) -> Result<(), NoMemory>
+    ensures { OnOk result (GainsData items.old.items items.new.items (named_id_data names id ∷ [])) }
 {
     let mut list = Vec::new(alloc);
-    push_name(alloc, &mut list, Names::Events, half)?;
+    push_name(alloc, &mut list, names, id)?;
     items.push(Value::Array(list))?;
     Ok(())
 }
 
-/// Puts a list of the events that these stand for at the end.
-pub(crate) fn push_events(
+/// Puts a list of such names at the end.
+pub(crate) fn push_all_named(
     alloc: Global,
     items: &mut Vec<Value>,
-    halves: &[TxnId],
+    names: Names,
+    ids: &[TxnId],
 ) -> Result<(), NoMemory>
-    ensures { OnOk result (GainsData items.old.items items.new.items (list_data (named_id_data Events) halves.now ∷ [])) }
+    ensures { OnOk result (GainsData items.old.items items.new.items (list_data (named_id_data names) ids.now ∷ [])) }
 {
     let mut list = Vec::new(alloc);
-    for half in halves {
-        push_half(alloc, &mut list, *half)?;
+    for id in ids {
+        push_named(alloc, &mut list, names, *id)?;
     }
     items.push(Value::Array(list))?;
     Ok(())

@@ -1,17 +1,11 @@
-ghost use Rattle.std.specs.Prelude.{◌≡◌, ℕ, List, Option, IfOk, OnOk};
+ghost use Rattle.std.specs.Prelude.{◌≡◌, IfOk, OnOk};
 ghost use Rattle.log_text.specs.Replies.{line_of, text_of, HasKindOfOrder, kind_name};
-ghost use Rattle.log_text.specs.Commands.{IsCommand};
-ghost use Rattle.log_text.specs.ReadBack.{CanBeRead, ReportsThat, SaysReply};
-ghost use Rattle.log_text.specs.Saved.{GainsData, NamesSessions, handed_by};
-ghost use Rattle.log_text.specs.Shown.{IsShownIn};
-ghost use Rattle.log_text.specs.declared.names.Names.{Names};
-ghost use Rattle.log_text.specs.declared.shown.Shown.{Shown};
+ghost use Rattle.log_text.specs.ReadBack.{HandsOverAgain, SaysReply, ShowsAgain};
+ghost use Rattle.log_text.specs.Saved.{GainsData};
 ghost use Rattle.log_text.specs.Told.{IsReply, reply_data, report_data};
 
-use crate::lists::{
-    push_each, push_flags, push_id, push_ids, push_numbers, push_word, push_writers,
-};
-use crate::names::{Names, push_events};
+use crate::lists::{push_each, push_flags, push_numbers, push_word, push_writers};
+use crate::names::{Names, push_all_named, push_named};
 use crate::saved::{Saved, push_saved};
 use crate::trees::push_tree;
 use isolation_histories::stars_are_of_keys;
@@ -28,28 +22,17 @@ pub enum Reply {
     Done,
     /// What was asked is refused.
     No(Refusal),
-    /// A round ended with an order that explains the history.
+    /// A round ended with an order that explains the history; or, where transactions are split, the split one. It is told by these names.
     Order {
+        names: Names,
         round: u64,
         kind: Kind,
         counts: Sequence<u64>,
         order: Sequence<TxnId>,
     },
-    /// A round found that no order explains the history, and a tree shows it.
+    /// A round found that no order explains the history, or the split one, and a tree shows it.
     Violated {
-        round: u64,
-        counts: Sequence<u64>,
-        tree: Tree,
-    },
-    /// The same where transactions are split: an order of halves, which are told as the events that they stand for.
-    Events {
-        round: u64,
-        kind: Kind,
-        counts: Sequence<u64>,
-        order: Sequence<TxnId>,
-    },
-    /// A round found that no order explains the split history: so that what was offered doesn't keep snapshot isolation.
-    Broken {
+        names: Names,
         round: u64,
         counts: Sequence<u64>,
         tree: Tree,
@@ -115,60 +98,6 @@ fn push_report(
     push_numbers(alloc, items, counts.as_slice())
 }
 
-fn push_ordered(
-    alloc: Global,
-    items: &mut Vec<Value>,
-    round: u64,
-    kind: Kind,
-    counts: &Sequence<u64>,
-    order: &Sequence<TxnId>,
-) -> Result<(), NoMemory>
-    ensures { OnOk result (GainsData items.old.items items.new.items (reply_data (Reply.Order round kind counts.now order.now))) }
-{
-    push_report(alloc, items, round, kind, counts)?;
-    push_ids(alloc, items, order.as_slice())
-}
-
-fn push_violated(
-    alloc: Global,
-    items: &mut Vec<Value>,
-    round: u64,
-    counts: &Sequence<u64>,
-    tree: &Tree,
-) -> Result<(), NoMemory>
-    ensures { OnOk result (GainsData items.old.items items.new.items (reply_data (Reply.Violated round counts.now tree.now))) }
-{
-    push_report(alloc, items, round, Kind::Violated, counts)?;
-    push_tree(alloc, items, Names::Ids, tree)
-}
-
-fn push_ordered_events(
-    alloc: Global,
-    items: &mut Vec<Value>,
-    round: u64,
-    kind: Kind,
-    counts: &Sequence<u64>,
-    order: &Sequence<TxnId>,
-) -> Result<(), NoMemory>
-    ensures { OnOk result (GainsData items.old.items items.new.items (reply_data (Reply.Events round kind counts.now order.now))) }
-{
-    push_report(alloc, items, round, kind, counts)?;
-    push_events(alloc, items, order.as_slice())
-}
-
-fn push_broken(
-    alloc: Global,
-    items: &mut Vec<Value>,
-    round: u64,
-    counts: &Sequence<u64>,
-    tree: &Tree,
-) -> Result<(), NoMemory>
-    ensures { OnOk result (GainsData items.old.items items.new.items (reply_data (Reply.Broken round counts.now tree.now))) }
-{
-    push_report(alloc, items, round, Kind::Violated, counts)?;
-    push_tree(alloc, items, Names::Events, tree)
-}
-
 fn push_cut(
     alloc: Global,
     items: &mut Vec<Value>,
@@ -179,8 +108,8 @@ fn push_cut(
     ensures { OnOk result (GainsData items.old.items items.new.items (reply_data (Reply.Cut fence gone.now last.now))) }
 {
     push_word(alloc, items, "cut")?;
-    push_id(alloc, items, fence)?;
-    push_ids(alloc, items, gone.as_slice())?;
+    push_named(alloc, items, Names::Ids, fence)?;
+    push_all_named(alloc, items, Names::Ids, gone.as_slice())?;
     push_writers(alloc, items, last.as_slice())
 }
 
@@ -211,27 +140,24 @@ fn push_parts(alloc: Global, items: &mut Vec<Value>, reply: &Reply) -> Result<()
         Reply::Done => push_word(alloc, items, "ok"),
         Reply::No(refusal) => push_refused(alloc, items, *refusal),
         Reply::Order {
+            names,
             round,
             kind,
             counts,
             order,
-        } => push_ordered(alloc, items, *round, *kind, counts, order),
+        } => {
+            push_report(alloc, items, *round, *kind, counts)?;
+            push_all_named(alloc, items, *names, order.as_slice())
+        }
         Reply::Violated {
+            names,
             round,
             counts,
             tree,
-        } => push_violated(alloc, items, *round, counts, tree),
-        Reply::Events {
-            round,
-            kind,
-            counts,
-            order,
-        } => push_ordered_events(alloc, items, *round, *kind, counts, order),
-        Reply::Broken {
-            round,
-            counts,
-            tree,
-        } => push_broken(alloc, items, *round, counts, tree),
+        } => {
+            push_report(alloc, items, *round, Kind::Violated, counts)?;
+            push_tree(alloc, items, *names, tree)
+        }
         Reply::Spent { round, counts } => push_report(alloc, items, *round, Kind::Spent, counts),
         Reply::Cut { fence, gone, last } => push_cut(alloc, items, *fence, gone, last),
         Reply::Show {
@@ -258,8 +184,8 @@ fn value_of(alloc: Global, reply: &Reply) -> Result<Value, NoMemory>
 fn reply_bytes(alloc: Global, reply: &Reply) -> Result<Vec<u8>, NoMemory>
     ensures text { IfOk result (λ bytes. bytes.items ≡ text_of reply.now) }
     ensures says { IfOk result (λ bytes. SaysReply bytes.items reply.now) }
-    ensures reads_back { IfOk result (λ bytes. (saved : Saved) → reply.now ≡ Reply.Saved saved → NamesSessions saved → (names : Names) → IsCommand names bytes.items (handed_by saved)) }
-    ensures report_reads_back { IfOk result (λ bytes. HasKindOfOrder reply.now → (names : Names) → (found : Option Shown) → ReportsThat names reply.now found → CanBeRead names found → IsShownIn names bytes.items found) }
+    ensures reads_back { IfOk result (λ bytes. HandsOverAgain bytes.items reply.now) }
+    ensures report_reads_back { IfOk result (λ bytes. HasKindOfOrder reply.now → ShowsAgain bytes.items reply.now) }
 {
     // A law that the proof cites. It does nothing when it runs.
     stars_are_of_keys();
@@ -274,8 +200,8 @@ pub fn write_reply(alloc: Global, reply: &Reply) -> Result<Vec<u8>, NoMemory>
     requires { HasKindOfOrder reply.now }
     ensures line { IfOk result (λ bytes. bytes.items ≡ line_of reply.now) }
     ensures says { IfOk result (λ bytes. SaysReply (text_of reply.now) reply.now) }
-    ensures reads_back { IfOk result (λ bytes. (saved : Saved) → reply.now ≡ Reply.Saved saved → NamesSessions saved → (names : Names) → IsCommand names (text_of reply.now) (handed_by saved)) }
-    ensures report_reads_back { IfOk result (λ bytes. (names : Names) → (found : Option Shown) → ReportsThat names reply.now found → CanBeRead names found → IsShownIn names (text_of reply.now) found) }
+    ensures reads_back { IfOk result (λ bytes. HandsOverAgain (text_of reply.now) reply.now) }
+    ensures report_reads_back { IfOk result (λ bytes. ShowsAgain (text_of reply.now) reply.now) }
 {
     let mut bytes = reply_bytes(alloc, reply)?;
     bytes.push(b'\n')?;

@@ -6,7 +6,7 @@ ghost use Rattle.refutation.specs.declared.trees.Tree.{Tree};
 ghost use Rattle.log_text.specs.Items.{list_of};
 ghost use Rattle.log_text.specs.Refutations.{IsTree};
 ghost use Rattle.log_text.specs.ReadBack.{IsSameShown};
-ghost use Rattle.log_text.specs.Shown.{id_of, Shows, ShowsAs, Reports, ReportsBy, IsReportOf, IsShownIn};
+ghost use Rattle.log_text.specs.Shown.{ShownOrNone, id_of, Shows, ShowsAs, Reports, ReportsBy, IsReportOf, IsShownIn};
 ghost use Rattle.log_text.specs.declared.shown.Shown.{Shown};
 
 use crate::building::tree_of_items;
@@ -59,7 +59,7 @@ fn tree_of(alloc: Global, names: Names, value: &Value) -> Result<Option<Tree>, N
 }
 
 fn order_shown(alloc: Global, names: Names, given: &Value) -> Result<Option<Shown>, NoMemory>
-    ensures { IfOk result (λ found. MatchOption found ((shown : Shown) → ¬ Shows names (string (codes "order")) (view given.now) shown) (Shows names (string (codes "order")) (view given.now))) }
+    ensures { IfOk result (ShownOrNone (Shows names (string (codes "order")) (view given.now))) }
 {
     match order_of(alloc, names, given)? {
         Some(order) => Ok(Some(Shown::Order(order))),
@@ -68,7 +68,7 @@ fn order_shown(alloc: Global, names: Names, given: &Value) -> Result<Option<Show
 }
 
 fn tree_shown(alloc: Global, names: Names, given: &Value) -> Result<Option<Shown>, NoMemory>
-    ensures { IfOk result (λ found. MatchOption found ((shown : Shown) → ¬ Shows names (string (codes "refuted")) (view given.now) shown) (Shows names (string (codes "refuted")) (view given.now))) }
+    ensures { IfOk result (ShownOrNone (Shows names (string (codes "refuted")) (view given.now))) }
 {
     match tree_of(alloc, names, given)? {
         Some(tree) => Ok(Some(Shown::Refuted(tree))),
@@ -83,7 +83,7 @@ fn shown_by(
     kind: &str,
     given: &Value,
 ) -> Result<Option<Shown>, NoMemory>
-    ensures { IfOk result (λ found. MatchOption found ((shown : Shown) → ¬ ShowsAs names (string kind.now) (view given.now) shown) (ShowsAs names (string kind.now) (view given.now))) }
+    ensures { IfOk result (ShownOrNone (ShowsAs names (string kind.now) (view given.now))) }
 {
     match kind {
         "serial" => order_shown(alloc, names, given),
@@ -100,7 +100,7 @@ fn reported(
     kind: &Value,
     given: &Value,
 ) -> Result<Option<Shown>, NoMemory>
-    ensures { IfOk result (λ found. MatchOption found ((shown : Shown) → ¬ ReportsBy names (view name.now) (view kind.now) (view given.now) shown) (ReportsBy names (view name.now) (view kind.now) (view given.now))) }
+    ensures { IfOk result (ShownOrNone (ReportsBy names (view name.now) (view kind.now) (view given.now))) }
 {
     let Some(name) = name.as_str() else {
         return Ok(None);
@@ -116,7 +116,7 @@ fn reported(
 
 #[tactic(auto, using(crate::proofs::Arity::reports_none))]
 fn report_in(alloc: Global, names: Names, items: &[Value]) -> Result<Option<Shown>, NoMemory>
-    ensures { IfOk result (λ found. MatchOption found ((shown : Shown) → ¬ Reports names (items_view items.now) shown) (Reports names (items_view items.now))) }
+    ensures { IfOk result (ShownOrNone (Reports names (items_view items.now))) }
 {
     match items {
         [name, _, kind, _, given] => reported(alloc, names, name, kind, given),
@@ -125,7 +125,7 @@ fn report_in(alloc: Global, names: Names, items: &[Value]) -> Result<Option<Show
 }
 
 fn report_of(alloc: Global, names: Names, value: &Value) -> Result<Option<Shown>, NoMemory>
-    ensures { IfOk result (λ found. MatchOption found ((shown : Shown) → ¬ IsReportOf names (view value.now) shown) (IsReportOf names (view value.now))) }
+    ensures { IfOk result (ShownOrNone (IsReportOf names (view value.now))) }
 {
     match value.as_array() {
         Some(items) => report_in(alloc, names, items.as_slice()),

@@ -3,8 +3,9 @@ ghost use Rattle.log_text.specs.Numbers.{number_within};
 ghost use Rattle.std.specs.List.{list_any};
 ghost use Rattle.serde_json.specs.Data.{string};
 ghost use Rattle.serde_json.specs.View.{view, items_view};
-ghost use Rattle.log_text.specs.Versions.{greatest_limit, greatest_split_limit, has_form, most_sessions, opening_in, promise_of, version_in, version_numbered, promise_in, strict_in, strict_of};
+ghost use Rattle.log_text.specs.Versions.{greatest_limit, has_form, most_remaining, most_sessions, names_of, opening_in, promise_of, version_in, version_numbered, version_of, promise_in, strict_in, strict_of};
 
+use crate::names::Names;
 use crate::numbers::number_within;
 use logged_fragments::LoggedFragment;
 use serde_json::Value;
@@ -49,7 +50,7 @@ pub enum Opening {
 
 /// What a script may be opened for that resumes no other.
 #[derive(Clone, Copy, Debug, PartialEq, Eq)]
-pub(crate) enum Promise {
+pub enum Promise {
     /// What one may be opened for that resumes another, too.
     Resumable(Opening),
     /// Whether some order explains all that was offered and keeps real time, by lines of this version, which is 2 or 3.
@@ -86,12 +87,36 @@ impl Version {
             Version::Three => LARGE_LIMIT,
         }
     }
+}
 
-    /// How many where each transaction is split in two.
-    pub fn greatest_split_limit(self) -> u64
-        ensures { result ≡ greatest_split_limit self }
+impl Opening {
+    /// The version in whose lines something is opened.
+    pub fn version(self) -> Version
+        ensures { result ≡ version_of self }
     {
-        self.greatest_limit() / 2
+        match self {
+            Opening::Ordered(version) | Opening::Isolated(version) => version,
+        }
+    }
+
+    /// How lines name transactions then.
+    pub fn names(self) -> Names
+        ensures { result ≡ names_of self }
+    {
+        match self {
+            Opening::Ordered(_) => Names::Ids,
+            Opening::Isolated(_) => Names::Events,
+        }
+    }
+
+    /// How many transactions may be let remain then.
+    pub fn most_remaining(self) -> u64
+        ensures { result ≡ most_remaining self }
+    {
+        match self {
+            Opening::Ordered(version) => version.greatest_limit(),
+            Opening::Isolated(version) => version.greatest_limit() / 2,
+        }
     }
 }
 

@@ -2,9 +2,10 @@
 use Rattle.std.proofs.Common.{◌≡◌, ◌≢◌, ℕ, ◌*◌, ◌≤◌, List, [], ◌∷◌, ◌++◌, append_assoc, append-nil, Option, Some, None, Bool, true, false, refl, ap, sym, ◌∙◌, subst, arith, inl, inr}
 use Rattle.txn.specs.declared.refusals.Refusal.TheVariants.{BadLine}
 use Rattle.log_text.specs.declared.commands.Command.{Command}
-use Rattle.log_text.specs.declared.commands.Command.TheVariants.{Start, StartIsolated, Collect}
+use Rattle.log_text.specs.declared.commands.Command.TheVariants.{Start, Collect}
 use Rattle.log_text.specs.declared.versions.Opening.{Opening}
 use Rattle.log_text.specs.declared.versions.Opening.TheVariants.{Ordered, Isolated}
+use Rattle.log_text.specs.declared.versions.Promise.TheVariants.{Resumable}
 use Rattle.log_text.specs.declared.versions.Version.{Version}
 use Rattle.log_text.specs.Versions.{most_sessions}
 use Rattle.log_text.specs.declared.replies.Reply.TheVariants as told
@@ -18,11 +19,11 @@ use Rattle.round_state.specs.Legal.{State}
 use Rattle.round_state.specs.Runs.{Holds}
 use Rattle.isolation_scripts.specs.Legal.{HoldsSplit}
 use Rattle.cobra.specs.Outputs.{Asks, IsTold}
-use Rattle.cobra.specs.Scripts.{AreVersionSessions, IsIsolatedLimit, IsVersionLimit}
+use Rattle.cobra.specs.Scripts.{MayBegin, opened_state}
 use Rattle.report_checking.specs.Checking.{TakesMemory, Checks, start, right, unchecked}
 use Rattle.report_checking.specs.OwedLines.{Owes, OwesIn, ScriptState}
 use Rattle.report_checking.specs.Outcomes.{FindsRightFirst}
-use Rattle.report_checking.specs.Reading.{HoldsScript, LeadsScript, MayGoOn, IsRead, Finds, FindsFor, FindsNext, IsFoundBy, IsFoundOf, IsFine, IsChecking, IsOwedBy, IsUnshownIn, LeadsOn, StopsOn, Advances, MayFind, Unshows, names_in}
+use Rattle.report_checking.specs.Reading.{HoldsIn, HoldsScript, LeadsScript, MayGoOn, IsRead, Finds, FindsFor, FindsNext, IsFoundBy, IsFoundOf, IsFine, IsChecking, IsOwedBy, IsUnshownIn, LeadsOn, StopsOn, Advances, MayFind, Unshows, names_in}
 use Rattle.report_checking.specs.declared.findings.Found.{Found}
 use Rattle.report_checking.specs.declared.open_scripts.OpenScript.{OpenScript}
 use Rattle.report_checking.specs.declared.findings.Found.TheVariants as found
@@ -36,30 +37,16 @@ use Rattle.report_checking.proofs.ScriptReplies.{asks_along, none_along}
 use Rattle.report_checking.proofs.UnshownReplies.{unshown_along}
 
 -- None was open, and the first one is.
-opened_by : (engine : EngineState) (sessions limit : ℕ) (version : Version) → Holds engine (fresh_state (most_sessions version) sessions limit) → AreVersionSessions version sessions × IsVersionLimit version limit
-    → LeadsScript None (Some (record { engine = engine; opening = Ordered version; searched = false })) (λ before after. Owes before (Start sessions limit version) told.Done after)
-opened_by engine sessions limit version holds numbers None first =
-    (Some (record { state = fresh_state (most_sessions version) sessions limit; opening = Ordered version; searched = false }), (numbers.0, numbers.1, refl), (holds, refl, refl))
-opened_by engine sessions limit version holds numbers (Some before) first = absurd first
+opened_by : (engine : EngineState) (sessions limit : ℕ) (opening : Opening) → HoldsIn opening engine (opened_state opening sessions limit) → MayBegin opening sessions limit
+    → LeadsScript None (Some (record { engine = engine; opening = opening; searched = false })) (λ before after. Owes before (Start sessions limit (Resumable opening)) told.Done after)
+opened_by engine sessions limit opening holds may None first = (Some (record { state = opened_state opening sessions limit; opening = opening; searched = false }), (may, refl), (holds, refl, refl))
+opened_by engine sessions limit opening holds may (Some before) first = absurd first
 
-pub opened : (old : Option OpenScript) (engine : EngineState) (sessions limit : ℕ) (version : Version) → old ≡ None → Holds engine (fresh_state (most_sessions version) sessions limit) → AreVersionSessions version sessions × IsVersionLimit version limit
-    → LeadsScript old (Some (record { engine = engine; opening = Ordered version; searched = false })) (λ before after. Owes before (Start sessions limit version) told.Done after)
-opened old engine sessions limit version none holds numbers =
-    subst (λ (o : Option OpenScript). LeadsScript o (Some (record { engine = engine; opening = Ordered version; searched = false })) (λ before after. Owes before (Start sessions limit version) told.Done after)) (sym none)
-    (opened_by engine sessions limit version holds numbers)
-
--- The same where transactions are split.
-isolated_by : (engine : EngineState) (sessions limit : ℕ) (version : Version) → HoldsSplit engine (fresh_state (most_sessions version) sessions (2 * limit)) → AreVersionSessions version sessions × IsIsolatedLimit version limit
-    → LeadsScript None (Some (record { engine = engine; opening = Isolated version; searched = false })) (λ before after. Owes before (StartIsolated sessions limit version) told.Done after)
-isolated_by engine sessions limit version holds numbers None first =
-    (Some (record { state = fresh_state (most_sessions version) sessions (2 * limit); opening = Isolated version; searched = false }), (numbers.0, numbers.1, refl), (holds, refl, refl))
-isolated_by engine sessions limit version holds numbers (Some before) first = absurd first
-
-pub isolated_opened : (old : Option OpenScript) (engine : EngineState) (sessions limit : ℕ) (version : Version) → old ≡ None → HoldsSplit engine (fresh_state (most_sessions version) sessions (2 * limit)) → AreVersionSessions version sessions × IsIsolatedLimit version limit
-    → LeadsScript old (Some (record { engine = engine; opening = Isolated version; searched = false })) (λ before after. Owes before (StartIsolated sessions limit version) told.Done after)
-isolated_opened old engine sessions limit version none holds numbers =
-    subst (λ (o : Option OpenScript). LeadsScript o (Some (record { engine = engine; opening = Isolated version; searched = false })) (λ before after. Owes before (StartIsolated sessions limit version) told.Done after)) (sym none)
-    (isolated_by engine sessions limit version holds numbers)
+pub opened : (old : Option OpenScript) (engine : EngineState) (sessions limit : ℕ) (opening : Opening) → old ≡ None → HoldsIn opening engine (opened_state opening sessions limit) → MayBegin opening sessions limit
+    → LeadsScript old (Some (record { engine = engine; opening = opening; searched = false })) (λ before after. Owes before (Start sessions limit (Resumable opening)) told.Done after)
+opened old engine sessions limit opening none holds may =
+    subst (λ (o : Option OpenScript). LeadsScript o (Some (record { engine = engine; opening = opening; searched = false })) (λ before after. Owes before (Start sessions limit (Resumable opening)) told.Done after)) (sym none)
+    (opened_by engine sessions limit opening holds may)
 
 -- A search goes on.
 on_in : (opening : Opening) (waits searched : Bool) (state : State) → waits ≡ false → searched ≡ true → OwesIn opening searched state (Collect waits) told.Searching searched state

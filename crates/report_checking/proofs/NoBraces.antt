@@ -17,7 +17,7 @@ use Rattle.refutation.specs.declared.trees.Leaf.TheVariants.{Cycle, NoWrite, Gon
 use Rattle.refutation.specs.declared.trees.Tree.{Tree, Close, Force', Split'}
 use Rattle.log_text.specs.Lists.{list_text, word_text, numbers_text}
 use Rattle.log_text.specs.Names.{event_texts, name_texts, key_told}
-use Rattle.log_text.specs.Replies.{id_text, event_text, kind_name, report_parts, text_of}
+use Rattle.log_text.specs.Replies.{name_text, kind_name, report_parts, text_of}
 use Rattle.log_text.specs.declared.names.Names.{Names}
 use Rattle.log_text.specs.declared.names.Names.TheVariants.{Ids, Events}
 use Rattle.isolation_histories.specs.Halves.{event_at}
@@ -85,9 +85,6 @@ in_both (text ∷ texts) more p q = (p.0, in_both texts more p.1 q)
 
 -- ---- trees
 
-in_id : (id : TxnId) → HasNone (id_text id)
-in_id id = in_numbers (id.session ∷ id.number ∷ [])
-
 in_event : (event : Event) → InNone (event_texts event)
 in_event (Begin id) = (in_decimal id.session, (in_decimal id.number, (refl, tt)))
 in_event (Commit id) = (in_decimal id.session, (in_decimal id.number, (refl, tt)))
@@ -149,14 +146,17 @@ in_parts round kind counts = (refl, (in_decimal round, (in_kind kind, (in_number
 in_ordered : (round : ℕ) (kind : Kind) (counts : List ℕ) (last : List ℕ) → HasNone last → HasNone (list_text (report_parts round kind counts ++ last ∷ []))
 in_ordered round kind counts last h = in_list (report_parts round kind counts ++ last ∷ []) (in_both (report_parts round kind counts) (last ∷ []) (in_parts round kind counts) (h, tt))
 
-in_event_text : (half : TxnId) → HasNone (event_text half)
-in_event_text half = in_list (name_texts Events half) (in_name Events half)
+in_named : (names : Names) (id : TxnId) → HasNone (name_text names id)
+in_named names id = in_list (name_texts names id) (in_name names id)
+
+in_order : (names : Names) (order : List TxnId) → HasNone (list_text (map (name_text names) order))
+in_order names order = in_list (map (name_text names) order) (in_each (name_text names) (in_named names) order)
 
 in_certified : (names : Names) (report : Report) (certificate : Certificate) → HasNone (text_of (told_by names (certified report certificate)))
-in_certified Ids report (Order order) = in_ordered report.round report.kind report.counts (list_text (map id_text order)) (in_list (map id_text order) (in_each id_text in_id order))
+in_certified Ids report (Order order) = in_ordered report.round report.kind report.counts (list_text (map (name_text Ids) order)) (in_order Ids order)
 in_certified Ids report (Refuted tree) = in_ordered report.round kinds.Violated report.counts (tree_text Ids tree) (in_list (items_of Ids tree) (in_items Ids tree))
 in_certified Ids report Nothing = in_list (report_parts report.round kinds.Spent report.counts) (in_parts report.round kinds.Spent report.counts)
-in_certified Events report (Order order) = in_ordered report.round report.kind (halved report.counts) (list_text (map event_text order)) (in_list (map event_text order) (in_each event_text in_event_text order))
+in_certified Events report (Order order) = in_ordered report.round report.kind (halved report.counts) (list_text (map (name_text Events) order)) (in_order Events order)
 in_certified Events report (Refuted tree) = in_ordered report.round kinds.Violated (halved report.counts) (tree_text Events tree) (in_list (items_of Events tree) (in_items Events tree))
 in_certified Events report Nothing = in_list (report_parts report.round kinds.Spent (halved report.counts)) (in_parts report.round kinds.Spent (halved report.counts))
 

@@ -223,8 +223,6 @@ takes_open version old command.Show is = let no : ⊥ = cc in no
 takes_open version old (command.Save asked) is = never_saved old.parts asked is
 takes_open version old (command.BeginSearch budget depth workers search) is = other_refusal is
 takes_open version old command.Skip is = other_refusal is
-takes_open version old (command.StartIsolated sessions limit lines) is = other_refusal is
-takes_open version old (command.StartStrict sessions limit lines) is = other_refusal is
 takes_open version old (command.OfferTimed logged began ended) is = other_refusal is
 takes_open version old (command.Resume sessions limit lines) is = other_refusal is
 takes_open version old (command.Marks marks closed) is = other_refusal is

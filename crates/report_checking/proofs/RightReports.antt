@@ -72,7 +72,7 @@ same_items names (Split' choice p first q second) (Split' choice' p' first' q' s
     (ap₂ (λ (texts more : List (List ℕ)). texts ++ more) (same_items names first first' same.1) (same_items names second second' same.2))
 same_items names tree other same = absurd same
 
-same_broken : (names : Names) (round : ℕ) (counts : List ℕ) (tree other : Tree) → IsSameTree tree other → text_of (told_by names (told.Violated round counts tree)) ≡ text_of (told_by names (told.Violated round counts other))
+same_broken : (names : Names) (round : ℕ) (counts : List ℕ) (tree other : Tree) → IsSameTree tree other → text_of (told_by names (told.Violated Ids round counts tree)) ≡ text_of (told_by names (told.Violated Ids round counts other))
 same_broken Ids round counts tree other same = rw (same_items Ids tree other same) refl
 same_broken Events round counts tree other same = rw (same_items Events tree other same) refl
 

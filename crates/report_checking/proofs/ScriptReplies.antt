@@ -9,7 +9,8 @@ use Rattle.order_check.specs.declared.remainder.Parts.{Parts}
 use Rattle.log_text.specs.Commands.{Says}
 use Rattle.log_text.specs.ReadBack.{IsSameShown}
 use Rattle.log_text.specs.Replies.{text_of}
-use Rattle.log_text.specs.Versions.{greatest_limit, greatest_split_limit, most_sessions}
+use Rattle.log_text.specs.declared.versions.Promise.TheVariants.{Resumable, Strict}
+use Rattle.log_text.specs.Versions.{most_sessions, names_of}
 use Rattle.log_text.specs.declared.commands.Command.{Command}
 use Rattle.log_text.specs.declared.commands.Command.TheVariants as command
 use Rattle.log_text.specs.declared.replies.Reply.{Reply}
@@ -35,10 +36,10 @@ use Rattle.isolation_scripts.specs.Isolated.{isolated_of}
 use Rattle.isolation_scripts.specs.Splitting.{CanBeAsked, IsAskedFault, split_command, split_wanted}
 use Rattle.cobra.specs.Outputs.{Asks, IsTold}
 use Rattle.cobra.specs.Saving.{saved_told}
-use Rattle.cobra.specs.Scripts.{AreVersionSessions, IsBeginningRefusal, IsIsolatedLimit, IsIsolatedRefusal, IsLimitWithin, IsVersionLimit, IsVersionRefusal, state_told}
+use Rattle.cobra.specs.Scripts.{IsBeginningRefusal, MayBegin, state_told}
 use Rattle.cobra.specs.StepReplies.{certified, report_of, reply_of}
 use Rattle.report_checking.specs.Checking.{AsksOfMemory, OpensEngine, TakesMemory, IsUnchecked}
-use Rattle.report_checking.specs.Isolation.{EndsIsolated, IsIsolatedRound, EndsWhere, OwesSplit, OwesAsked, OwesIsolated, names_of}
+use Rattle.report_checking.specs.Isolation.{EndsIsolated, IsIsolatedRound, EndsWhere, OwesSplit, OwesAsked, OwesIsolated}
 use Rattle.report_checking.specs.OwedLines.{OwesFirst, OwesIn, Owes, OwesLine, ScriptState, names_told}
 use Rattle.report_checking.specs.Owing.{BeginsSearch, IsOfEngine}
 use Rattle.report_checking.specs.Reading.{HoldsIn, HoldsScript, GivesFirst, GivesWhere, GivesBeside, GivesIsolated, GivesIn, GivesScript, MayGoOn, IsAlone, IsOtherwise, IsOtherwiseTo, IsFoundBy, IsFoundOf, names_in}
@@ -57,16 +58,15 @@ use Rattle.report_checking.proofs.SaidOnce.{IsOne}
 -- ---- what may want memory
 
 takes_first : (asked : Command) → GivesFirst asked (told.No NoMemory) → OpensEngine asked
-takes_first (command.Start sessions limit lines) is = tt
-takes_first (command.StartIsolated sessions limit lines) is = tt
-takes_first (command.StartStrict sessions limit lines) is = is
+takes_first (command.Start sessions limit (Resumable opening)) is = tt
+takes_first (command.Start sessions limit (Strict version)) is = is
 takes_first (command.Resume sessions limit lines) is = is
 takes_first asked is = other_refusal is
 
 -- where transactions are split
 memory_by_halves : (inner : Reply) → told.No NoMemory ≡ isolated_of inner → told.No NoMemory ≡ inner
-memory_by_halves (told.Order round kind counts order) is = absurd (let no : ⊥ = cc in no)
-memory_by_halves (told.Violated round counts tree) is = absurd (let no : ⊥ = cc in no)
+memory_by_halves (told.Order names round kind counts order) is = absurd (let no : ⊥ = cc in no)
+memory_by_halves (told.Violated names round counts tree) is = absurd (let no : ⊥ = cc in no)
 memory_by_halves (told.Spent round counts) is = absurd (let no : ⊥ = cc in no)
 memory_by_halves (told.Cut fence gone last) is = absurd (let no : ⊥ = cc in no)
 memory_by_halves (told.Show marks received closed last remaining) is = absurd (let no : ⊥ = cc in no)
@@ -165,13 +165,9 @@ otherwise_none old next stored none (found.Wrong why) is = absurd is
 -- ---- where the check stops
 
 gives_first : (asked : Command) (answer : Reply) (new : Option ScriptState) → OwesFirst asked answer new → GivesFirst asked answer
-gives_first (command.Start sessions limit version) told.Done new is = (is.0, is.1)
-gives_first (command.Start sessions limit version) (told.No refusal) new is = is.0
-gives_first (command.Start sessions limit version) answer new is = absurd is
-gives_first (command.StartIsolated sessions limit version) told.Done new is = (is.0, is.1)
-gives_first (command.StartIsolated sessions limit version) (told.No refusal) new is = is.0
-gives_first (command.StartIsolated sessions limit version) answer new is = absurd is
-gives_first (command.StartStrict sessions limit version) answer new is = absurd is
+gives_first (command.Start sessions limit (Resumable opening)) told.Done new is = is.0
+gives_first (command.Start sessions limit (Resumable opening)) (told.No refusal) new is = is.0
+gives_first (command.Start sessions limit promise) answer new is = absurd is
 gives_first (command.Resume sessions limit opening) answer new is = absurd is
 gives_first asked answer new is = is.0
 
@@ -344,61 +340,42 @@ no_unchecked script old next line stored why holds said is new un = ((is line sa
 
 -- ---- an engine is opened
 
-same_beginning : (many most sessions limit : ℕ) (r q : Refusal) → IsBeginningRefusal many most sessions limit r → IsBeginningRefusal many most sessions limit q → IsOne r q
-same_beginning many most sessions limit NoMemory q a b = inl refl
-same_beginning many most sessions limit r NoMemory a b = inr (inl refl)
-same_beginning many most sessions limit BadSession BadSession a b = inr (inr refl)
-same_beginning many most sessions limit BadSession TooLong a b = absurd (a b.0)
-same_beginning many most sessions limit BadSession q a b = absurd b
-same_beginning many most sessions limit TooLong BadSession a b = absurd (b a.0)
-same_beginning many most sessions limit TooLong TooLong a b = inr (inr refl)
-same_beginning many most sessions limit TooLong q a b = absurd b
-same_beginning many most sessions limit r q a b = absurd a
+same_beginning : (opening : Opening) (sessions limit : ℕ) (r q : Refusal) → IsBeginningRefusal opening sessions limit r → IsBeginningRefusal opening sessions limit q → IsOne r q
+same_beginning opening sessions limit NoMemory q a b = inl refl
+same_beginning opening sessions limit r NoMemory a b = inr (inl refl)
+same_beginning opening sessions limit BadSession BadSession a b = inr (inr refl)
+same_beginning opening sessions limit BadSession TooLong a b = absurd (a b.0)
+same_beginning opening sessions limit BadSession q a b = absurd b
+same_beginning opening sessions limit TooLong BadSession a b = absurd (b a.0)
+same_beginning opening sessions limit TooLong TooLong a b = inr (inr refl)
+same_beginning opening sessions limit TooLong q a b = absurd b
+same_beginning opening sessions limit r q a b = absurd a
 
-begun_first : (many most sessions limit : ℕ) (r : Refusal) → IsSessions many sessions → IsLimitWithin most limit → IsBeginningRefusal many most sessions limit r → r ≡ NoMemory
-begun_first many most sessions limit BadSession some few is = absurd (is some)
-begun_first many most sessions limit TooLong some few is = absurd (is.1 few)
-begun_first many most sessions limit NoMemory some few is = refl
-begun_first many most sessions limit r some few is = absurd is
+begun_first : (opening : Opening) (sessions limit : ℕ) (r : Refusal) → MayBegin opening sessions limit → IsBeginningRefusal opening sessions limit r → r ≡ NoMemory
+begun_first opening sessions limit BadSession may is = absurd (is may.0)
+begun_first opening sessions limit TooLong may is = absurd (is.1 may.1)
+begun_first opening sessions limit NoMemory may is = refl
+begun_first opening sessions limit r may is = absurd is
 
 refused_first : (r q : Refusal) → IsOne r q → (told.No q ≡ told.No NoMemory) ⊎ ((told.No r ≡ told.No NoMemory) ⊎ (told.No r ≡ told.No q))
 refused_first r q (inl is) = inr (inl (ap told.No is))
 refused_first r q (inr (inl is)) = inl (ap told.No is)
 refused_first r q (inr (inr is)) = inr (inr (ap told.No is))
 
-first_done : (sessions limit : ℕ) (version : Version) → AreVersionSessions version sessions → IsVersionLimit version limit → IsAlone (GivesFirst (command.Start sessions limit version)) (owed.Reply told.Done)
-first_done sessions limit version some few told.Done is = inr (inr refl)
-first_done sessions limit version some few (told.No q) is = inl (ap told.No (begun_first (most_sessions version) (greatest_limit version) sessions limit q some few is))
-first_done sessions limit version some few answer is = absurd is
+first_done : (sessions limit : ℕ) (opening : Opening) → MayBegin opening sessions limit → IsAlone (GivesFirst (command.Start sessions limit (Resumable opening))) (owed.Reply told.Done)
+first_done sessions limit opening may told.Done is = inr (inr refl)
+first_done sessions limit opening may (told.No q) is = inl (ap told.No (begun_first opening sessions limit q may is))
+first_done sessions limit opening may answer is = absurd is
 
-first_refused : (sessions limit : ℕ) (version : Version) (r : Refusal) → IsVersionRefusal version sessions limit r → IsAlone (GivesFirst (command.Start sessions limit version)) (owed.Reply (told.No r))
-first_refused sessions limit version r why told.Done is = inr (inl (ap told.No (begun_first (most_sessions version) (greatest_limit version) sessions limit r is.0 is.1 why)))
-first_refused sessions limit version r why (told.No q) is = refused_first r q (same_beginning (most_sessions version) (greatest_limit version) sessions limit r q why is)
-first_refused sessions limit version r why answer is = absurd is
+first_refused : (sessions limit : ℕ) (opening : Opening) (r : Refusal) → IsBeginningRefusal opening sessions limit r → IsAlone (GivesFirst (command.Start sessions limit (Resumable opening))) (owed.Reply (told.No r))
+first_refused sessions limit opening r why told.Done is = inr (inl (ap told.No (begun_first opening sessions limit r is why)))
+first_refused sessions limit opening r why (told.No q) is = refused_first r q (same_beginning opening sessions limit r q why is)
+first_refused sessions limit opening r why answer is = absurd is
 
-pub opened_alone : (old : Option OpenScript) (sessions limit : ℕ) (version : Version) → old ≡ None → AreVersionSessions version sessions × IsVersionLimit version limit → IsAlone (GivesScript old (command.Start sessions limit version)) (owed.Reply told.Done)
-opened_alone old sessions limit version none numbers =
-    subst (λ (o : Option OpenScript). IsAlone (GivesScript o (command.Start sessions limit version)) (owed.Reply told.Done)) (sym none) (first_done sessions limit version numbers.0 numbers.1)
+pub opened_alone : (old : Option OpenScript) (sessions limit : ℕ) (opening : Opening) → old ≡ None → MayBegin opening sessions limit → IsAlone (GivesScript old (command.Start sessions limit (Resumable opening))) (owed.Reply told.Done)
+opened_alone old sessions limit opening none may =
+    subst (λ (o : Option OpenScript). IsAlone (GivesScript o (command.Start sessions limit (Resumable opening))) (owed.Reply told.Done)) (sym none) (first_done sessions limit opening may)
 
-pub unopened_alone : (old : Option OpenScript) (sessions limit : ℕ) (version : Version) (r : Refusal) → old ≡ None → IsVersionRefusal version sessions limit r → IsAlone (GivesScript old (command.Start sessions limit version)) (owed.Reply (told.No r))
-unopened_alone old sessions limit version r none why =
-    subst (λ (o : Option OpenScript). IsAlone (GivesScript o (command.Start sessions limit version)) (owed.Reply (told.No r))) (sym none) (first_refused sessions limit version r why)
-
--- the same where transactions are split
-isolated_done : (sessions limit : ℕ) (version : Version) → AreVersionSessions version sessions → IsIsolatedLimit version limit → IsAlone (GivesFirst (command.StartIsolated sessions limit version)) (owed.Reply told.Done)
-isolated_done sessions limit version some few told.Done is = inr (inr refl)
-isolated_done sessions limit version some few (told.No q) is = inl (ap told.No (begun_first (most_sessions version) (greatest_split_limit version) sessions limit q some few is))
-isolated_done sessions limit version some few answer is = absurd is
-
-isolated_refused : (sessions limit : ℕ) (version : Version) (r : Refusal) → IsIsolatedRefusal version sessions limit r → IsAlone (GivesFirst (command.StartIsolated sessions limit version)) (owed.Reply (told.No r))
-isolated_refused sessions limit version r why told.Done is = inr (inl (ap told.No (begun_first (most_sessions version) (greatest_split_limit version) sessions limit r is.0 is.1 why)))
-isolated_refused sessions limit version r why (told.No q) is = refused_first r q (same_beginning (most_sessions version) (greatest_split_limit version) sessions limit r q why is)
-isolated_refused sessions limit version r why answer is = absurd is
-
-pub isolated_opened_alone : (old : Option OpenScript) (sessions limit : ℕ) (version : Version) → old ≡ None → AreVersionSessions version sessions × IsIsolatedLimit version limit → IsAlone (GivesScript old (command.StartIsolated sessions limit version)) (owed.Reply told.Done)
-isolated_opened_alone old sessions limit version none numbers =
-    subst (λ (o : Option OpenScript). IsAlone (GivesScript o (command.StartIsolated sessions limit version)) (owed.Reply told.Done)) (sym none) (isolated_done sessions limit version numbers.0 numbers.1)
-
-pub isolated_unopened_alone : (old : Option OpenScript) (sessions limit : ℕ) (version : Version) (r : Refusal) → old ≡ None → IsIsolatedRefusal version sessions limit r → IsAlone (GivesScript old (command.StartIsolated sessions limit version)) (owed.Reply (told.No r))
-isolated_unopened_alone old sessions limit version r none why =
-    subst (λ (o : Option OpenScript). IsAlone (GivesScript o (command.StartIsolated sessions limit version)) (owed.Reply (told.No r))) (sym none) (isolated_refused sessions limit version r why)
+pub unopened_alone : (old : Option OpenScript) (sessions limit : ℕ) (opening : Opening) (r : Refusal) → old ≡ None → IsBeginningRefusal opening sessions limit r → IsAlone (GivesScript old (command.Start sessions limit (Resumable opening))) (owed.Reply (told.No r))
+unopened_alone old sessions limit opening r none why =
+    subst (λ (o : Option OpenScript). IsAlone (GivesScript o (command.Start sessions limit (Resumable opening))) (owed.Reply (told.No r))) (sym none) (first_refused sessions limit opening r why)

@@ -16,10 +16,12 @@ use Rattle.log_text.specs.declared.commands.Command.TheVariants as command
 use Rattle.log_text.specs.declared.replies.Reply.{Reply}
 use Rattle.log_text.specs.declared.replies.Reply.TheVariants as told
 use Rattle.log_text.specs.declared.versions.Version.{Version}
-use Rattle.log_text.specs.Versions.{has_form, most_sessions}
+use Rattle.log_text.specs.Versions.{has_form, most_sessions, version_of}
 use Rattle.log_text.specs.Replies.{HasKindOfOrder, text_of}
+use Rattle.log_text.specs.declared.names.Names.{Names}
 use Rattle.log_text.specs.declared.names.Names.TheVariants.{Ids, Events}
-use Rattle.log_text.specs.declared.versions.Opening.TheVariants.{Isolated}
+use Rattle.log_text.specs.declared.versions.Opening.{Opening}
+use Rattle.log_text.specs.declared.versions.Opening.TheVariants.{Ordered, Isolated}
 use Rattle.round_state.specs.EngineState.{EngineState}
 use Rattle.round_state.specs.Legal.{State, Legal, TellsOf, IsTrueOf, whole_after, asked_after}
 use Rattle.round_state.specs.Opening.{fresh_state}
@@ -38,11 +40,11 @@ use Rattle.isolation_scripts.specs.Isolated.{halved, isolated_of}
 use Rattle.isolation_scripts.specs.Legal.{IsIsolationOf, TellsIsolationOf, IsTrueIsolation, LegalIsolation, split_state, HoldsSplit, FreshEnginesAreSplit, SplitStepsAreLegal}
 use Rattle.isolation_scripts.specs.Splitting.{CanBeAsked, IsAskedFault, split_command}
 use Rattle.isolation_scripts.specs.Steps.{split_step, CanBeMade}
-use Rattle.cobra.specs.Scripts.{IsBadLine, IsTakenIn}
+use Rattle.cobra.specs.Scripts.{IsBadLine, IsTakenIn, opened_state, room_of}
 use Rattle.cobra.specs.StepReplies.{reply_of, report_of, claim_of}
 use Rattle.report_checking.specs.Isolation.{IsOwedIsolation, IsIsolatedStep, EndsIsolated, IsIsolatedRound, EndsWhere, OwesSplit, OwesAsked, OwesIsolated}
 use Rattle.report_checking.specs.Owing.{IsStep, OwesFinish, OwesRound, OwesOpen, OwesBeside, FinishesWhere, GoesOn, BeginsSearch, IsOfEngine, searched_after}
-use Rattle.report_checking.specs.Reading.{Leads, LeadsSplit, IsOwedBy, OfRight, OwesText, IsAlone, EarnsBeside, EarnsIn, GivesBeside, GivesIsolated, isolated_owed}
+use Rattle.report_checking.specs.Reading.{HoldsIn, Leads, LeadsSplit, IsOwedBy, OfRight, OwesText, IsAlone, EarnsBeside, EarnsIn, GivesBeside, GivesIsolated, isolated_owed}
 use Rattle.report_checking.specs.declared.findings.Owed.{Owed}
 use Rattle.report_checking.specs.declared.findings.Owed.TheVariants as owed
 use Rattle.report_checking.specs.declared.findings.Unshown.{Unshown}
@@ -55,9 +57,18 @@ pub record Laws : Type 0 where
   pub keeps : SplitKeepsVerdict
 
 -- a fresh engine
-pub fresh_split : FreshEnginesAreSplit → (engine : EngineState) (most sessions limit : ℕ) → Holds engine (fresh_state most sessions limit) → HoldsSplit engine (fresh_state most sessions limit)
+fresh_split : FreshEnginesAreSplit → (engine : EngineState) (most sessions limit : ℕ) → Holds engine (fresh_state most sessions limit) → HoldsSplit engine (fresh_state most sessions limit)
 fresh_split law engine most sessions limit holds =
     subst (λ (e : EngineState). HoldsSplit e (fresh_state most sessions limit)) holds.same (law most sessions limit (subst (λ (e : EngineState). Holds e (fresh_state most sessions limit)) (sym holds.same) holds))
+
+opened_holds : FreshEnginesAreSplit → (opening : Opening) (engine : EngineState) (sessions limit : ℕ) → Holds engine (opened_state opening sessions limit) → HoldsIn opening engine (opened_state opening sessions limit)
+opened_holds law (Ordered version) engine sessions limit holds = holds
+opened_holds law (Isolated version) engine sessions limit holds = fresh_split law engine (most_sessions version) sessions (2 * limit) holds
+
+-- an engine with as many sessions and as much room as one that is opened for this
+pub fresh_holds : FreshEnginesAreSplit → (opening : Opening) (engine : EngineState) (many sessions limit room : ℕ) → many ≡ most_sessions (version_of opening) → room ≡ room_of opening limit → Holds engine (fresh_state many sessions room) → HoldsIn opening engine (opened_state opening sessions limit)
+fresh_holds law opening engine many sessions limit room is room_is holds =
+    opened_holds law opening engine sessions limit (subst (λ (n : ℕ). Holds engine (fresh_state n sessions (room_of opening limit))) is (subst (λ (r : ℕ). Holds engine (fresh_state many sessions r)) room_is holds))
 
 -- ---- steps
 
@@ -346,15 +357,15 @@ asked_owed laws version old new searched now asked inner can leads before holds 
 
 -- ---- what is owed
 
-ordered_kind : (round : ℕ) (kind : Kind) (counts : List ℕ) (order : List TxnId) → HasKindOfOrder (told.Order round kind counts order) → HasKindOfOrder (told.Events round kind (halved counts) order)
-ordered_kind round kinds.Serial counts order is = tt
-ordered_kind round kinds.Pending counts order is = tt
-ordered_kind round kinds.Violated counts order is = is
-ordered_kind round kinds.Spent counts order is = is
+ordered_kind : (names : Names) (round : ℕ) (kind : Kind) (counts : List ℕ) (order : List TxnId) → HasKindOfOrder (told.Order names round kind counts order) → HasKindOfOrder (told.Order Events round kind (halved counts) order)
+ordered_kind names round kinds.Serial counts order is = tt
+ordered_kind names round kinds.Pending counts order is = tt
+ordered_kind names round kinds.Violated counts order is = is
+ordered_kind names round kinds.Spent counts order is = is
 
 kind_told : (inner : Reply) → HasKindOfOrder inner → HasKindOfOrder (isolated_of inner)
-kind_told (told.Order round kind counts order) is = ordered_kind round kind counts order is
-kind_told (told.Violated round counts tree) is = tt
+kind_told (told.Order names round kind counts order) is = ordered_kind names round kind counts order is
+kind_told (told.Violated names round counts tree) is = tt
 kind_told (told.Spent round counts) is = tt
 kind_told (told.Cut fence gone last) is = tt
 kind_told (told.Show marks received closed last remaining) is = tt

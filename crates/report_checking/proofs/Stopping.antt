@@ -18,7 +18,8 @@ use Rattle.log_text.specs.declared.names.Names.{Names}
 use Rattle.log_text.specs.declared.versions.Opening.{Opening}
 use Rattle.log_text.specs.declared.versions.Opening.TheVariants.{Ordered, Isolated}
 use Rattle.log_text.specs.declared.versions.Version.{Version}
-use Rattle.report_checking.specs.Isolation.{names_of, told_by}
+use Rattle.log_text.specs.Versions.{names_of}
+use Rattle.report_checking.specs.Isolation.{told_by}
 use Rattle.log_text.specs.Shown.{IsShownIn}
 use Rattle.report_checking.specs.OwedLines.{ScriptState}
 use Rattle.report_checking.specs.Reading.{HoldsScript, Finds, FindsNext, EarnsBeside, EarnsIn, IsFairTo, IsFairNext, IsOtherwiseNext, IsRead, StopsOn}

@@ -8,7 +8,7 @@ use Rattle.txn.specs.declared.transactions.TxnId.{TxnId}
 use Rattle.txn.specs.History.{History}
 use Rattle.order_check.specs.declared.remainder.Parts.{Parts}
 use Rattle.log_text.specs.declared.commands.Command.{Command}
-use Rattle.log_text.specs.declared.commands.Command.TheVariants.{Start, StartIsolated, StartStrict, Offer, OfferTimed, Join, Close, Begin, Finish, Round, BeginSearch, Collect, Skip, Truncate, Rebuild, Show, Resume, Marks, MarksBegun, Last, Resumed, Save, Answer}
+use Rattle.log_text.specs.declared.commands.Command.TheVariants.{Start, Offer, OfferTimed, Join, Close, Begin, Finish, Round, BeginSearch, Collect, Skip, Truncate, Rebuild, Show, Resume, Marks, MarksBegun, Last, Resumed, Save, Answer}
 use Rattle.log_text.specs.declared.commands.Wanted.{Wanted}
 use Rattle.log_text.specs.declared.commands.Wanted.TheVariants as wanted
 use Rattle.log_text.specs.declared.replies.Reply.{Reply}
@@ -209,8 +209,6 @@ module _ (laws : Laws) where
   opened version gone old new (Finish budget depth workers search) answer can is stands = bad gone old new (Finish budget depth workers search) answer is stands
   opened version gone old new (Answer shown) answer can is stands = by_step 0 gone old new (Answer shown) (step.Judge (claim_of shown)) answer refl tt tt is stands
   opened version gone old new (Start sessions limit other) answer can is stands = bad gone old new (Start sessions limit other) answer is stands
-  opened version gone old new (StartIsolated sessions limit other) answer can is stands = bad gone old new (StartIsolated sessions limit other) answer is stands
-  opened version gone old new (StartStrict sessions limit other) answer can is stands = bad gone old new (StartStrict sessions limit other) answer is stands
   opened version gone old new (OfferTimed logged began ended) answer can is stands = bad gone old new (OfferTimed logged began ended) answer is stands
   opened version gone old new (Resume sessions limit other) answer can is stands = bad gone old new (Resume sessions limit other) answer is stands
   opened version gone old new (Marks marks closed) answer can is stands = bad gone old new (Marks marks closed) answer is stands

@@ -8,7 +8,7 @@ use Rattle.txn.specs.declared.transactions.TxnId.{TxnId}
 use Rattle.txn.specs.History.{History}
 use Rattle.order_check.specs.declared.remainder.Parts.{Parts}
 use Rattle.log_text.specs.declared.commands.Command.{Command}
-use Rattle.log_text.specs.declared.commands.Command.TheVariants.{Start, StartIsolated, StartStrict, Offer, OfferTimed, Join, Close, Begin, Finish, Round, BeginSearch, Collect, Skip, Truncate, Rebuild, Show, Resume, Marks, MarksBegun, Last, Resumed, Save, Answer}
+use Rattle.log_text.specs.declared.commands.Command.TheVariants.{Start, Offer, OfferTimed, Join, Close, Begin, Finish, Round, BeginSearch, Collect, Skip, Truncate, Rebuild, Show, Resume, Marks, MarksBegun, Last, Resumed, Save, Answer}
 use Rattle.log_text.specs.declared.commands.Wanted.{Wanted}
 use Rattle.log_text.specs.declared.commands.Wanted.TheVariants as wanted
 use Rattle.log_text.specs.declared.replies.Reply.{Reply}
@@ -188,8 +188,6 @@ module _ (steps : StepsHoldBehind) (orders : ReportedOrdersStandBehind) where
   opened version gone old new Show answer is stands = unchanged gone old new Show answer (state_told old.engine) is.0 is.1 tt refl stands
   opened version gone old new (Save asked) answer is stands = unchanged gone old new (Save asked) answer (saved_told old.engine.parts asked) is.0 is.1 (saved_true gone old.asked old.engine.parts asked) (saved_moves old.engine.parts asked) stands
   opened version gone old new (Start sessions limit other) answer is stands = bad gone old new (Start sessions limit other) answer is stands
-  opened version gone old new (StartIsolated sessions limit other) answer is stands = bad gone old new (StartIsolated sessions limit other) answer is stands
-  opened version gone old new (StartStrict sessions limit other) answer is stands = bad gone old new (StartStrict sessions limit other) answer is stands
   opened version gone old new (OfferTimed logged began ended) answer is stands = bad gone old new (OfferTimed logged began ended) answer is stands
   opened version gone old new (Resume sessions limit other) answer is stands = bad gone old new (Resume sessions limit other) answer is stands
   opened version gone old new (Marks marks closed) answer is stands = bad gone old new (Marks marks closed) answer is stands

@@ -3,17 +3,19 @@ use Rattle.std.proofs.Common.{◌≡◌, ℕ, ◌*◌, true, List, [], ◌++◌,
 use Rattle.txn.specs.declared.transactions.TxnId.{TxnId}
 use Rattle.txn.specs.History.{History}
 use Rattle.log_text.specs.declared.commands.Command.{Command}
-use Rattle.log_text.specs.declared.commands.Command.TheVariants.{Start, StartIsolated, StartStrict, Resume, Collect}
+use Rattle.log_text.specs.declared.commands.Command.TheVariants.{Start, Resume, Collect}
 use Rattle.log_text.specs.declared.replies.Reply.{Reply}
 use Rattle.log_text.specs.declared.replies.Reply.TheVariants as told
 use Rattle.log_text.specs.declared.versions.Opening.{Opening}
 use Rattle.log_text.specs.declared.versions.Opening.TheVariants.{Ordered, Isolated}
+use Rattle.log_text.specs.declared.versions.Promise.TheVariants.{Resumable}
 use Rattle.log_text.specs.Versions.{most_sessions}
 use Rattle.round_state.specs.Legal.{State}
 use Rattle.round_state.specs.Opening.{fresh}
 use Rattle.isolation_scripts.specs.Legal.{NothingIsSplit}
 use Rattle.engine_pasts.specs.Holding.{HoldsBehind}
 use Rattle.engine_pasts.specs.Laws.{FreshEnginesHoldBehind, HalvesAreToldBehind, ReportedOrdersStandBehind}
+use Rattle.cobra.specs.Scripts.{opened_state}
 use Rattle.report_checking.specs.Checking.{Checks, left_by, right, start, unchecked}
 use Rattle.report_checking.specs.OwedLines.{Owes, OwesFirst, OwesIn, OwesLine, ScriptState}
 use Rattle.report_checking.specs.TrueReplies.{ChecksTrue, IsKept, IsKeptIn, IsTrueTold, MovesIn, RightRepliesAreTrue, TellsIn, TellsTrue, beginning, left_out, reported_in, true_reply}
@@ -61,18 +63,18 @@ next_in laws (Isolated version) searched after gone old new command answer owes 
     let next = isolated.isolated_on laws.isolating version searched after gone old new command answer owes stands in
     record { ahead = next.ahead; is_true = next.is_true; moves = next.moves; stands = next.stands }
 
+-- an engine that is opened stands behind nothing
+opened_stands : Laws → (opening : Opening) (sessions limit : ℕ) → StandsIn opening [] (opened_state opening sessions limit)
+opened_stands laws (Ordered version) sessions limit = laws.fresh_behind (most_sessions version) sessions limit
+opened_stands laws (Isolated version) sessions limit =
+    let nothing = laws.nothing sessions in
+    (nothing.1, nothing.1, subst (λ (history : History). HoldsBehind [] (fresh (most_sessions version) sessions (2 * limit)) history history) (sym nothing.0) (laws.fresh_behind (most_sessions version) sessions (2 * limit)))
+
 -- where no script is open
 first_stands : Laws → (command : Command) (answer : Reply) (new : Option ScriptState) → OwesFirst command answer new → Stands new []
-first_stands laws (Start sessions limit version) told.Done new first = subst (λ (script : Option ScriptState). Stands script []) (sym first.2) (laws.fresh_behind (most_sessions version) sessions limit)
-first_stands laws (Start sessions limit version) (told.No refusal) new first = subst (λ (script : Option ScriptState). Stands script []) (sym first.1) refl
-first_stands laws (Start sessions limit version) answer new first = absurd first
-first_stands laws (StartIsolated sessions limit version) told.Done new first =
-    let nothing = laws.nothing sessions in
-    subst (λ (script : Option ScriptState). Stands script []) (sym first.2)
-    (nothing.1, nothing.1, subst (λ (history : History). HoldsBehind [] (fresh (most_sessions version) sessions (2 * limit)) history history) (sym nothing.0) (laws.fresh_behind (most_sessions version) sessions (2 * limit)))
-first_stands laws (StartIsolated sessions limit version) (told.No refusal) new first = subst (λ (script : Option ScriptState). Stands script []) (sym first.1) refl
-first_stands laws (StartIsolated sessions limit version) answer new first = absurd first
-first_stands laws (StartStrict sessions limit version) answer new first = absurd first
+first_stands laws (Start sessions limit (Resumable opening)) told.Done new first = subst (λ (script : Option ScriptState). Stands script []) (sym first.1) (opened_stands laws opening sessions limit)
+first_stands laws (Start sessions limit (Resumable opening)) (told.No refusal) new first = subst (λ (script : Option ScriptState). Stands script []) (sym first.1) refl
+first_stands laws (Start sessions limit promise) answer new first = absurd first
 first_stands laws (Resume sessions limit opening) answer new first = absurd first
 first_stands laws command answer new first = subst (λ (script : Option ScriptState). Stands script []) (sym first.1) refl
 

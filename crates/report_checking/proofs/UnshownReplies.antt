@@ -7,7 +7,7 @@ use Rattle.json.specs.Json.{value}
 use Rattle.order_check.specs.declared.remainder.Parts.{Parts}
 use Rattle.logged_fragments.specs.declared.logged.LoggedFragment.{LoggedFragment}
 use Rattle.log_text.specs.declared.commands.Command.{Command}
-use Rattle.log_text.specs.declared.commands.Command.TheVariants.{StartStrict, Offer, Join, Finish, Round, Collect, Resume, Save}
+use Rattle.log_text.specs.declared.commands.Command.TheVariants.{Start, Offer, Join, Finish, Round, Collect, Resume, Save}
 use Rattle.log_text.specs.declared.names.Names.{Names}
 use Rattle.log_text.specs.declared.names.Names.TheVariants.{Ids, Events}
 use Rattle.log_text.specs.declared.shown.Shown.{Shown}
@@ -19,7 +19,8 @@ use Rattle.round_state.specs.EngineState.{EngineState}
 use Rattle.round_state.specs.Solving.{IsWrong}
 use Rattle.round_state.specs.declared.steps.Step.{Step}
 use Rattle.isolation_scripts.specs.Splitting.{split_command}
-use Rattle.report_checking.specs.Isolation.{names_of}
+use Rattle.log_text.specs.Versions.{names_of}
+use Rattle.log_text.specs.declared.versions.Promise.TheVariants.{Strict}
 use Rattle.log_text.specs.Shown.{IsShownIn}
 use Rattle.report_checking.specs.OwedLines.{ScriptState}
 use Rattle.report_checking.specs.Reading.{HoldsScript, IsToldOf, IsTakenAs, IsUnshownIn, Unshows, answer_of, isolated_owed, unshown_of}
@@ -81,7 +82,7 @@ unshows_split names engine asked split stored inner given same is told =
 
 pub unshown_along : (script : Option OpenScript) (state : Option ScriptState) (asked : Command) (stored : List ℕ) (why : Unshown) → HoldsScript script state → IsUnshownIn script asked stored why → IsUnshownTo state asked stored why
 unshown_along None None (Resume sessions limit opening) stored unshown.Beginning holds is = tt
-unshown_along None None (StartStrict sessions limit version) stored unshown.Strict holds is = tt
+unshown_along None None (Start sessions limit (Strict version)) stored unshown.Strict holds is = tt
 unshown_along None None asked stored why holds is = absurd is
 unshown_along (Some script) (Some state) asked stored why holds is =
     let named = subst (λ (o : Opening). EndsWrong (names_of o) script.engine asked stored why) holds.1 is in
@@ -114,6 +115,6 @@ empty_ends names engine asked why is = is
 -- what isn't shown by a reply that isn't read
 pub unshown_unread : (script : Option OpenScript) (asked : Command) (stored : List ℕ) (why : Unshown) → IsUnshownIn script asked [] why → IsUnshownIn script asked stored why
 unshown_unread None (Resume sessions limit opening) stored unshown.Beginning is = tt
-unshown_unread None (StartStrict sessions limit version) stored unshown.Strict is = tt
+unshown_unread None (Start sessions limit (Strict version)) stored unshown.Strict is = tt
 unshown_unread None asked stored why is = absurd is
 unshown_unread (Some script) asked stored why is = absurd (empty_ends (names_of script.opening) script.engine asked why is)

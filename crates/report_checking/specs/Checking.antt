@@ -2,7 +2,8 @@
 use Rattle.std.specs.Prelude.{◌≡◌, ℕ, ◌<◌, ⊤, false, List, [], ◌∷◌, ◌++◌, count_by, Option, Some, None}
 use Rattle.txn.specs.declared.refusals.Refusal.TheVariants.{NoMemory}
 use Rattle.log_text.specs.declared.commands.Command.{Command}
-use Rattle.log_text.specs.declared.commands.Command.TheVariants.{Start, StartIsolated, StartStrict, OfferTimed, Close, BeginSearch, Collect, Skip, Show, Resume, Marks, MarksBegun, Last, Resumed, Save}
+use Rattle.log_text.specs.declared.commands.Command.TheVariants.{Start, OfferTimed, Close, BeginSearch, Collect, Skip, Show, Resume, Marks, MarksBegun, Last, Resumed, Save}
+use Rattle.log_text.specs.declared.versions.Promise.TheVariants.{Resumable}
 use Rattle.log_text.specs.declared.replies.Reply.{Reply}
 use Rattle.log_text.specs.declared.replies.Reply.TheVariants as told
 use Rattle.log_text.specs.Replies.{text_of}
@@ -21,22 +22,19 @@ pub record IsRightReply (old : Option ScriptState) (line stored : List ℕ) (new
 
 -- a command that may be refused for want of memory, where no engine is open
 abbrev pub OpensEngine : Command → Type 0
-OpensEngine (Start sessions limit version) = ⊤
-OpensEngine (StartIsolated sessions limit version) = ⊤
+OpensEngine (Start sessions limit (Resumable opening)) = ⊤
 OpensEngine command = ⊥
 
 -- and where one is
 abbrev pub AsksOfMemory : Command → Type 0
-AsksOfMemory (Start sessions limit version) = ⊥
+AsksOfMemory (Start sessions limit promise) = ⊥
 AsksOfMemory (Close session) = ⊥
 AsksOfMemory (BeginSearch budget depth workers search) = ⊥
 AsksOfMemory Skip = ⊥
 AsksOfMemory Show = ⊥
 AsksOfMemory (Save wanted) = ⊥
-AsksOfMemory (StartIsolated sessions limit version) = ⊥
-AsksOfMemory (StartStrict sessions limit version) = ⊥
 AsksOfMemory (OfferTimed logged began ended) = ⊥
-AsksOfMemory (Resume sessions limit version) = ⊥
+AsksOfMemory (Resume sessions limit opening) = ⊥
 AsksOfMemory (Marks marks closed) = ⊥
 AsksOfMemory (MarksBegun marks closed begun) = ⊥
 AsksOfMemory (Last last) = ⊥

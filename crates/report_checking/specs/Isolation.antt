@@ -87,10 +87,6 @@ OwesIsolated version searched old command answer after new =
 
 -- ---- how a script tells of transactions
 
-abbrev pub names_of : Opening → Names
-names_of (Ordered version) = Ids
-names_of (Isolated version) = Events
-
 -- an engine's reply, told by these names
 abbrev pub told_by : Names → Reply → Reply
 told_by Ids answer = answer

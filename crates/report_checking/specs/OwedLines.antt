@@ -1,7 +1,7 @@
 -- Which reply is owed to a line of a script: of one about orders, or of one that asks for snapshot isolation.
 use Rattle.std.specs.Prelude.{◌≡◌, ℕ, ◌*◌, ◌⊎◌, Bool, false, List, Option, Some, None}
 use Rattle.log_text.specs.declared.commands.Command.{Command}
-use Rattle.log_text.specs.declared.commands.Command.TheVariants.{Start, StartIsolated, StartStrict, Resume}
+use Rattle.log_text.specs.declared.commands.Command.TheVariants.{Start, Resume}
 use Rattle.log_text.specs.declared.names.Names.{Names}
 use Rattle.log_text.specs.declared.names.Names.TheVariants.{Ids}
 use Rattle.log_text.specs.declared.replies.Reply.{Reply}
@@ -12,8 +12,10 @@ use Rattle.log_text.specs.Versions.{most_sessions}
 use Rattle.round_state.specs.Legal.{State}
 use Rattle.round_state.specs.Opening.{fresh_state}
 use Rattle.cobra.specs.Outputs.{Asks}
-use Rattle.cobra.specs.Scripts.{AreVersionSessions, IsBadLine, IsIsolatedLimit, IsIsolatedRefusal, IsVersionLimit, IsVersionRefusal}
-use Rattle.report_checking.specs.Isolation.{OwesIsolated, names_of}
+use Rattle.cobra.specs.Scripts.{IsBadLine, IsBeginningRefusal, MayBegin, opened_state}
+use Rattle.log_text.specs.Versions.{names_of}
+use Rattle.log_text.specs.declared.versions.Promise.TheVariants.{Resumable}
+use Rattle.report_checking.specs.Isolation.{OwesIsolated}
 use Rattle.report_checking.specs.Owing.{OwesBeside}
 
 -- A script whose engine is open: the engine, with the history that it stands for, which where transactions are split is as they were offered; what
@@ -32,13 +34,9 @@ names_told (Some script) = names_of script.opening
 -- shown; nor to one that asks for strict serializability: a script that begins so isn't checked. An engine whose
 -- transactions are split has room for two of each.
 abbrev pub OwesFirst : Command → Reply → Option ScriptState → Type 0
-OwesFirst (Start sessions limit version) told.Done new = AreVersionSessions version sessions × IsVersionLimit version limit × (new ≡ Some (record { state = fresh_state (most_sessions version) sessions limit; opening = Ordered version; searched = false }))
-OwesFirst (Start sessions limit version) (told.No refusal) new = IsVersionRefusal version sessions limit refusal × (new ≡ None)
-OwesFirst (Start sessions limit version) answer new = ⊥
-OwesFirst (StartIsolated sessions limit version) told.Done new = AreVersionSessions version sessions × IsIsolatedLimit version limit × (new ≡ Some (record { state = fresh_state (most_sessions version) sessions (2 * limit); opening = Isolated version; searched = false }))
-OwesFirst (StartIsolated sessions limit version) (told.No refusal) new = IsIsolatedRefusal version sessions limit refusal × (new ≡ None)
-OwesFirst (StartIsolated sessions limit version) answer new = ⊥
-OwesFirst (StartStrict sessions limit version) answer new = ⊥
+OwesFirst (Start sessions limit (Resumable opening)) told.Done new = MayBegin opening sessions limit × (new ≡ Some (record { state = opened_state opening sessions limit; opening = opening; searched = false }))
+OwesFirst (Start sessions limit (Resumable opening)) (told.No refusal) new = IsBeginningRefusal opening sessions limit refusal × (new ≡ None)
+OwesFirst (Start sessions limit promise) answer new = ⊥
 OwesFirst (Resume sessions limit opening) answer new = ⊥
 OwesFirst command answer new = IsBadLine None answer new
 

@@ -4,7 +4,7 @@ use Rattle.std.specs.List.{list_any}
 use Rattle.txn.specs.declared.refusals.Refusal.{Refusal}
 use Rattle.txn.specs.declared.refusals.Refusal.TheVariants.{NoMemory, NoRound, RoundOpen, BadLine}
 use Rattle.log_text.specs.declared.commands.Command.{Command}
-use Rattle.log_text.specs.declared.commands.Command.TheVariants.{Start, StartIsolated, StartStrict, Offer, Join, Close, Begin, Finish, Round, BeginSearch, Collect, Skip, Truncate, Rebuild, Show, Resume, Save, Answer}
+use Rattle.log_text.specs.declared.commands.Command.TheVariants.{Start, Offer, Join, Close, Begin, Finish, Round, BeginSearch, Collect, Skip, Truncate, Rebuild, Show, Resume, Save, Answer}
 use Rattle.polygraph.specs.declared.solving.Answer as solved
 use Rattle.polygraph.specs.declared.solving.Answer.TheVariants as answers
 use Rattle.log_text.specs.declared.replies.Reply.{Reply}
@@ -38,10 +38,12 @@ use Rattle.isolation_scripts.specs.Legal.{HoldsSplit}
 use Rattle.isolation_scripts.specs.Splitting.{CanBeAsked, IsAskedFault, split_command}
 use Rattle.cobra.specs.Outputs.{Asks, IsTold}
 use Rattle.cobra.specs.Saving.{saved_told}
-use Rattle.cobra.specs.Scripts.{AreVersionSessions, IsIsolatedLimit, IsIsolatedRefusal, IsVersionLimit, IsVersionRefusal, state_told}
+use Rattle.cobra.specs.Scripts.{IsBeginningRefusal, MayBegin, state_told}
 use Rattle.cobra.specs.StepReplies.{claim_of, report_of, reply_of}
 use Rattle.report_checking.specs.Checking.{IsRightReply, IsUnchecked, TakesMemory, Checks, FindsRight, left_by}
-use Rattle.report_checking.specs.Isolation.{names_of, told_by}
+use Rattle.log_text.specs.Versions.{names_of}
+use Rattle.log_text.specs.declared.versions.Promise.TheVariants.{Resumable, Strict}
+use Rattle.report_checking.specs.Isolation.{told_by}
 use Rattle.log_text.specs.Shown.{IsShownIn}
 use Rattle.report_checking.specs.OwedLines.{Owes, ScriptState}
 use Rattle.report_checking.specs.Owing.{BeginsSearch, IsEarned}
@@ -146,7 +148,7 @@ script_left command script = script
 -- what the stored reply to a command of a script doesn't show
 abbrev pub IsUnshownIn : Option OpenScript → Command → List ℕ → Unshown → Type 0
 IsUnshownIn None (Resume sessions limit opening) stored unshown.Beginning = ⊤
-IsUnshownIn None (StartStrict sessions limit version) stored unshown.Strict = ⊤
+IsUnshownIn None (Start sessions limit (Strict version)) stored unshown.Strict = ⊤
 IsUnshownIn None command stored why = ⊥
 IsUnshownIn (Some script) command stored why = EndsWrong (names_of script.opening) script.engine command stored why
 
@@ -329,14 +331,10 @@ GivesBeside version searched old command answer = Gives version old command answ
 
 -- the same where no engine is open
 abbrev pub GivesFirst : Command → Reply → Type 0
-GivesFirst (Start sessions limit version) told.Done = AreVersionSessions version sessions × IsVersionLimit version limit
-GivesFirst (Start sessions limit version) (told.No refusal) = IsVersionRefusal version sessions limit refusal
-GivesFirst (Start sessions limit version) answer = ⊥
-GivesFirst (StartIsolated sessions limit version) told.Done = AreVersionSessions version sessions × IsIsolatedLimit version limit
-GivesFirst (StartIsolated sessions limit version) (told.No refusal) = IsIsolatedRefusal version sessions limit refusal
-GivesFirst (StartIsolated sessions limit version) answer = ⊥
-GivesFirst (StartStrict sessions limit version) answer = ⊥
-GivesFirst (Resume sessions limit version) answer = ⊥
+GivesFirst (Start sessions limit (Resumable opening)) told.Done = MayBegin opening sessions limit
+GivesFirst (Start sessions limit (Resumable opening)) (told.No refusal) = IsBeginningRefusal opening sessions limit refusal
+GivesFirst (Start sessions limit promise) answer = ⊥
+GivesFirst (Resume sessions limit opening) answer = ⊥
 GivesFirst command answer = answer ≡ told.No BadLine
 
 -- the same where transactions are split

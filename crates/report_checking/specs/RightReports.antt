@@ -19,8 +19,9 @@ use Rattle.round_state.specs.declared.steps.StepReply.TheVariants as reply
 use Rattle.isolation_scripts.specs.Legal.{LegalIsolation}
 use Rattle.cobra.specs.Outputs.{Asks}
 use Rattle.cobra.specs.StepReplies.{claim_of, report_of}
+use Rattle.log_text.specs.Versions.{names_of}
 use Rattle.report_checking.specs.Checking.{Checks, IsRightReply, IsRightSoFar, IsUnchecked}
-use Rattle.report_checking.specs.Isolation.{IsOwedIsolation, names_of, told_by}
+use Rattle.report_checking.specs.Isolation.{IsOwedIsolation, told_by}
 use Rattle.log_text.specs.Shown.{IsShownIn}
 use Rattle.report_checking.specs.OwedLines.{OwesLine, ScriptState}
 use Rattle.report_checking.specs.Owing.{IsOwedReport}
@@ -76,10 +77,8 @@ TellsRightReport (Some old) line stored = IsRightReport old line stored
 
 -- the reply isn't a report
 abbrev pub IsNoReport : Reply → Type 0
-IsNoReport (told.Order round kind counts order) = ⊥
-IsNoReport (told.Violated round counts tree) = ⊥
-IsNoReport (told.Events round kind counts order) = ⊥
-IsNoReport (told.Broken round counts tree) = ⊥
+IsNoReport (told.Order names round kind counts order) = ⊥
+IsNoReport (told.Violated names round counts tree) = ⊥
 IsNoReport (told.Spent round counts) = ⊥
 IsNoReport answer = ⊤
 

@@ -20,10 +20,8 @@ use Rattle.report_checking.specs.declared.texts.Tally.{Tally}
 
 -- what a reply tells
 abbrev pub what_of : Reply → What
-what_of (told.Order round kind counts order) = what.Report kind
-what_of (told.Violated round counts tree) = what.Report kinds.Violated
-what_of (told.Events round kind counts order) = what.Report kind
-what_of (told.Broken round counts tree) = what.Report kinds.Violated
+what_of (told.Order names round kind counts order) = what.Report kind
+what_of (told.Violated names round counts tree) = what.Report kinds.Violated
 what_of (told.Spent round counts) = what.Report kinds.Spent
 what_of (told.Cut fence gone last) = what.Cut
 what_of other = what.Other

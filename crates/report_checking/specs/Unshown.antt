@@ -6,7 +6,7 @@ use Rattle.order_check.specs.declared.remainder.Parts.{Parts}
 use Rattle.refutation.specs.Refutes.{IsRefutation}
 use Rattle.refutation.specs.declared.trees.Tree.{Tree}
 use Rattle.log_text.specs.declared.commands.Command.{Command}
-use Rattle.log_text.specs.declared.commands.Command.TheVariants.{StartStrict, Finish, Round, Collect, Resume}
+use Rattle.log_text.specs.declared.commands.Command.TheVariants.{Start, Finish, Round, Collect, Resume}
 use Rattle.log_text.specs.declared.names.Names.{Names}
 use Rattle.log_text.specs.declared.shown.Shown.TheVariants as shown
 use Rattle.round_state.specs.EngineState.{EngineState}
@@ -14,7 +14,8 @@ use Rattle.round_state.specs.Steps.{StepsTo}
 use Rattle.round_state.specs.declared.steps.Step.TheVariants as step
 use Rattle.round_state.specs.declared.steps.StepReply.TheVariants as reply
 use Rattle.cobra.specs.Outputs.{Asks}
-use Rattle.report_checking.specs.Isolation.{names_of}
+use Rattle.log_text.specs.Versions.{names_of}
+use Rattle.log_text.specs.declared.versions.Promise.TheVariants.{Strict}
 use Rattle.log_text.specs.Shown.{IsShownIn}
 use Rattle.report_checking.specs.OwedLines.{ScriptState, names_told}
 use Rattle.report_checking.specs.declared.findings.Unshown.{Unshown}
@@ -42,7 +43,7 @@ EndsWrong names engine command stored why = ⊥
 -- serializability isn't checked.
 abbrev pub IsUnshownTo : Option ScriptState → Command → List ℕ → Unshown → Type 0
 IsUnshownTo None (Resume sessions limit opening) stored unshown.Beginning = ⊤
-IsUnshownTo None (StartStrict sessions limit version) stored unshown.Strict = ⊤
+IsUnshownTo None (Start sessions limit (Strict version)) stored unshown.Strict = ⊤
 IsUnshownTo None command stored why = ⊥
 IsUnshownTo (Some old) command stored why = EndsWrong (names_of old.opening) old.state.engine command stored why
 

@@ -81,8 +81,6 @@ pub(crate) fn what_of(answer: &Reply) -> What
     match answer {
         Reply::Order { kind, .. } => What::Report(*kind),
         Reply::Violated { .. } => What::Report(Kind::Violated),
-        Reply::Events { kind, .. } => What::Report(*kind),
-        Reply::Broken { .. } => What::Report(Kind::Violated),
         Reply::Spent { .. } => What::Report(Kind::Spent),
         Reply::Cut { .. } => What::Cut,
         Reply::Done | Reply::Searching | Reply::No(_) | Reply::Show { .. } | Reply::Saved(_) =>

@@ -4,7 +4,8 @@ ghost use Rattle.log_text.specs.Replies.{HasKindOfOrder};
 ghost use Rattle.round_state.specs.declared.steps.Step.TheVariants as step;
 ghost use Rattle.log_text.specs.declared.names.Names.TheVariants as named;
 ghost use Rattle.log_text.specs.declared.versions.Opening.TheVariants as openings;
-ghost use Rattle.report_checking.specs.Isolation.{OwesIsolated, names_of};
+ghost use Rattle.log_text.specs.Versions.{names_of};
+ghost use Rattle.report_checking.specs.Isolation.{OwesIsolated};
 ghost use Rattle.report_checking.specs.OwedLines.{OwesIn};
 ghost use Rattle.report_checking.specs.Owing.{BeginsSearch, FinishesWhere, IsOfEngine, IsStep, OwesBeside, searched_after};
 ghost use Rattle.report_checking.specs.Reading.{Leads, LeadsIn, LeadsSplit, IsOwedBy, IsToldOf, OfRight, OwesText, IsAlone, EarnsWhere, GivesWhere, EarnsBeside, EarnsIn, GivesBeside, GivesIn, GivesIsolated, isolated_owed, Unshows};
@@ -52,10 +53,7 @@ impl OpenScript {
     pub(crate) fn names(&self) -> Names
         ensures { result ≡ names_of self.now.opening }
     {
-        match self.opening {
-            Opening::Ordered(_) => Names::Ids,
-            Opening::Isolated(_) => Names::Events,
-        }
+        self.opening.names()
     }
 
     /// Whether a search was begun that isn't collected yet.

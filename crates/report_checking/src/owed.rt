@@ -143,8 +143,6 @@ pub(crate) fn owed_open(
         Command::Collect { .. } => Ok(Owed::Reply(Reply::No(Refusal::BadLine))),
         Command::Skip => Ok(Owed::Reply(Reply::No(Refusal::BadLine))),
         Command::Start { .. } => Ok(Owed::Reply(Reply::No(Refusal::BadLine))),
-        Command::StartIsolated { .. } => Ok(Owed::Reply(Reply::No(Refusal::BadLine))),
-        Command::StartStrict { .. } => Ok(Owed::Reply(Reply::No(Refusal::BadLine))),
         Command::OfferTimed { .. } => Ok(Owed::Reply(Reply::No(Refusal::BadLine))),
         Command::Resume { .. } => Ok(Owed::Reply(Reply::No(Refusal::BadLine))),
         Command::Marks { .. } => Ok(Owed::Reply(Reply::No(Refusal::BadLine))),

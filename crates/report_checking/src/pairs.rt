@@ -12,7 +12,7 @@ use crate::open_scripts::OpenScript;
 use crate::replayed::Replayed;
 use byte_lines::Next;
 use cobra::command_in;
-use log_text::{Command, Names, Opening, Reply, Version, write_reply};
+use log_text::{Command, Names, Opening, Promise, Reply, write_reply};
 use std::alloc::{AllocError, Global};
 use txn::{NoMemory, Refusal};
 
@@ -55,13 +55,16 @@ impl Replay {
         ensures { IsTrue result ↔ TakesMemory self.now.script command.now }
     {
         match command {
-            Command::Start { .. } | Command::StartIsolated { .. } => self.script.is_none(),
-            Command::Close(_)
+            Command::Start {
+                promise: Promise::Resumable(_),
+                ..
+            } => self.script.is_none(),
+            Command::Start { .. }
+            | Command::Close(_)
             | Command::BeginSearch { .. }
             | Command::Skip
             | Command::Show
             | Command::Save(_)
-            | Command::StartStrict { .. }
             | Command::OfferTimed { .. }
             | Command::Resume { .. }
             | Command::Marks { .. }
@@ -72,30 +75,15 @@ impl Replay {
         }
     }
 
-    fn open(&mut self, alloc: Global, sessions: u64, limit: u64, version: Version) -> Reply
+    fn open(&mut self, alloc: Global, sessions: u64, limit: u64, opening: Opening) -> Reply
         requires { self.old.script ≡ None }
-        ensures owed { LeadsScript self.old.script self.new.script (λ before after. Owes before (Command.Start sessions limit version) result after) }
+        ensures owed { LeadsScript self.old.script self.new.script (λ before after. Owes before (Command.Start sessions limit (Promise.Resumable opening)) result after) }
         ensures kind { HasKindOfOrder result }
-        ensures alone { IsAlone (GivesScript self.old.script (Command.Start sessions limit version)) (Owed.Reply result) }
+        ensures alone { IsAlone (GivesScript self.old.script (Command.Start sessions limit (Promise.Resumable opening))) (Owed.Reply result) }
     {
-        match Replayed::open(alloc, sessions, limit, version) {
+        match Replayed::open(alloc, sessions, limit, opening) {
             Ok(engine) => {
-                self.script = Some(OpenScript::new(engine, Opening::Ordered(version)));
-                Reply::Done
-            }
-            Err(refusal) => Reply::No(refusal),
-        }
-    }
-
-    fn open_isolated(&mut self, alloc: Global, sessions: u64, limit: u64, version: Version) -> Reply
-        requires { self.old.script ≡ None }
-        ensures owed { LeadsScript self.old.script self.new.script (λ before after. Owes before (Command.StartIsolated sessions limit version) result after) }
-        ensures kind { HasKindOfOrder result }
-        ensures alone { IsAlone (GivesScript self.old.script (Command.StartIsolated sessions limit version)) (Owed.Reply result) }
-    {
-        match Replayed::open_isolated(alloc, sessions, limit, version) {
-            Ok(engine) => {
-                self.script = Some(OpenScript::new(engine, Opening::Isolated(version)));
+                self.script = Some(OpenScript::new(engine, opening));
                 Reply::Done
             }
             Err(refusal) => Reply::No(refusal),
@@ -116,14 +104,9 @@ impl Replay {
             Command::Start {
                 sessions,
                 limit,
-                version,
-            } => Ok(Owed::Reply(self.open(alloc, sessions, limit, version))),
-            Command::StartIsolated {
-                sessions,
-                limit,
-                version,
-            } => Ok(Owed::Reply(self.open_isolated(alloc, sessions, limit, version))),
-            Command::StartStrict { .. } => Ok(Owed::Nothing(Unshown::Strict)),
+                promise: Promise::Resumable(opening),
+            } => Ok(Owed::Reply(self.open(alloc, sessions, limit, opening))),
+            Command::Start { .. } => Ok(Owed::Nothing(Unshown::Strict)),
             Command::Resume { .. } => Ok(Owed::Nothing(Unshown::Beginning)),
             _ => Ok(Owed::Reply(Reply::No(Refusal::BadLine))),
         }

@@ -1,19 +1,17 @@
-ghost use Rattle.std.specs.Prelude.{◌≡◌, ◌+◌, ◌*◌, Some, None, IsSome, IsSomeAnd, IfOk, IfErr, OnOk, MatchBool, ⊤};
+ghost use Rattle.std.specs.Prelude.{◌≡◌, ◌+◌, Some, None, IsSome, IsSomeAnd, IfOk, IfErr, OnOk, MatchBool, ⊤};
 ghost use Rattle.order_check.specs.declared.remainder.Parts.{Parts};
 ghost use Rattle.order_check.specs.Good.{IsGood};
-ghost use Rattle.log_text.specs.Versions.{most_sessions};
 ghost use Rattle.round_state.specs.Opening.{IsOpenRefusal, fresh_state};
 ghost use Rattle.round_state.specs.Runs.{HasLimits, Holds, StepsLegally};
 ghost use Rattle.round_state.specs.Solving.{IsReportOn};
 ghost use Rattle.round_state.specs.Steps.{StepsTo, IsFinishRefusal};
-ghost use Rattle.isolation_scripts.specs.Legal.{HoldsSplit};
-ghost use Rattle.cobra.specs.Scripts.{AreVersionSessions, IsIsolatedLimit, IsIsolatedRefusal, IsVersionLimit, IsVersionRefusal};
+ghost use Rattle.cobra.specs.Scripts.{IsBeginningRefusal, MayBegin, opened_state};
 ghost use Rattle.report_checking.specs.Owing.{IsEarned, IsOwedReport};
-ghost use Rattle.report_checking.specs.Reading.{Leads};
+ghost use Rattle.report_checking.specs.Reading.{HoldsIn, Leads};
 
-use cobra::{may_begin_isolated, may_begin_ordered};
+use cobra::{may_begin, room_of};
 use isolation_scripts::fresh_engines_are_split;
-use log_text::Version;
+use log_text::Opening;
 use order_check::verdict_as_stood_for;
 use polygraph::{Answer, Problem, Solver};
 use refutation::refuted_has_no_order;
@@ -74,46 +72,22 @@ impl Replayed {
         })
     }
 
-    /// One for lines of this version.
+    /// One that is opened for this.
     pub(crate) fn open(
         alloc: Global,
         sessions: u64,
         limit: u64,
-        version: Version,
+        opening: Opening,
     ) -> Result<Replayed, Refusal>
-        ensures holds { IfOk result (λ engine. Holds engine (fresh_state (most_sessions version) sessions limit)) }
-        ensures numbers { OnOk result (AreVersionSessions version sessions × IsVersionLimit version limit) }
-        ensures err { IfErr result (IsVersionRefusal version sessions limit) }
-    {
-        if let Err(refusal) = may_begin_ordered(version, sessions, limit) {
-            return Err(refusal);
-        }
-        match Replayed::fresh(alloc, version.most_sessions(), sessions, limit) {
-            Ok(engine) => Ok(engine),
-            Err(refusal) => Err(refusal),
-        }
-    }
-
-    /// One whose transactions are split: it has room for two of each.
-    pub(crate) fn open_isolated(
-        alloc: Global,
-        sessions: u64,
-        limit: u64,
-        version: Version,
-    ) -> Result<Replayed, Refusal>
-        ensures holds { IfOk result (λ engine. HoldsSplit engine (fresh_state (most_sessions version) sessions (2 * limit))) }
-        ensures numbers { OnOk result (AreVersionSessions version sessions × IsIsolatedLimit version limit) }
-        ensures err { IfErr result (IsIsolatedRefusal version sessions limit) }
+        ensures holds { IfOk result (λ engine. HoldsIn opening engine (opened_state opening sessions limit)) }
+        ensures numbers { OnOk result (MayBegin opening sessions limit) }
+        ensures err { IfErr result (IsBeginningRefusal opening sessions limit) }
     {
         // A law that the proof cites. It does nothing when it runs.
         fresh_engines_are_split();
-        if let Err(refusal) = may_begin_isolated(version, sessions, limit) {
-            return Err(refusal);
-        }
-        match Replayed::fresh(alloc, version.most_sessions(), sessions, 2 * limit) {
-            Ok(engine) => Ok(engine),
-            Err(refusal) => Err(refusal),
-        }
+        may_begin(opening, sessions, limit)?;
+        let most = opening.version().most_sessions();
+        Replayed::fresh(alloc, most, sessions, room_of(opening, limit))
     }
 
     pub(crate) fn engine(&self) -> &Engine

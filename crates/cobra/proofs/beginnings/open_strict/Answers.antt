@@ -6,13 +6,11 @@ use Rattle.cobra.proofs.beginnings.open_strict.Goals as goal
 
 pub open-requires : goal.open-requires
 open-requires c =
-    let may = c.in_default.ensures.ok in
-    subst (λ (n : ℕ). AreBounds n c.args.sessions c.args.limit) (sym c.most_sessions.ensures) (version_bounds c.args.version c.args.sessions c.args.limit may.0 may.1)
+    subst (λ (n : ℕ). AreBounds n c.args.sessions c.args.limit) (sym c.most_sessions.ensures) (version_bounds c.args.version c.args.sessions c.args.limit c.in_default.ensures.ok)
 
 pub returns-in-Ok : goal.returns-in-Ok
 returns-in-Ok c =
-    let may = c.in_default.ensures.ok in
-    (may.0, may.1, ap (λ (offered : OfferedState). Some (stage.Strict offered c.args.version)) (c.in-Ok.ensures ∙ ap (λ (n : ℕ). nothing_offered n c.args.sessions c.args.limit) c.most_sessions.ensures))
+    (c.in_default.ensures.ok, ap (λ (offered : OfferedState). Some (stage.Strict offered c.args.version)) (c.in-Ok.ensures ∙ ap (λ (n : ℕ). nothing_offered n c.args.sessions c.args.limit) c.most_sessions.ensures))
 
 pub returns-in-Err-open : goal.returns-in-Err-open
 returns-in-Err-open c = (c.in_default.ensures.ok, refl)

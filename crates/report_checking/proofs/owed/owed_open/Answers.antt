@@ -59,12 +59,6 @@ returns-in-Skip-clause-owed c = rw c.in-Skip.is (tt, out_of_place c.args.engine.
 pub returns-in-Start-clause-owed : goal.returns-in-Start-clause-owed
 returns-in-Start-clause-owed c = rw c.in-Start.is (tt, out_of_place c.args.engine.now)
 
-pub returns-in-StartIsolated-clause-owed : goal.returns-in-StartIsolated-clause-owed
-returns-in-StartIsolated-clause-owed c = rw c.in-StartIsolated.is (tt, out_of_place c.args.engine.now)
-
-pub returns-in-StartStrict-clause-owed : goal.returns-in-StartStrict-clause-owed
-returns-in-StartStrict-clause-owed c = rw c.in-StartStrict.is (tt, out_of_place c.args.engine.now)
-
 pub returns-in-OfferTimed-clause-owed : goal.returns-in-OfferTimed-clause-owed
 returns-in-OfferTimed-clause-owed c = rw c.in-OfferTimed.is (tt, out_of_place c.args.engine.now)
 
@@ -129,12 +123,6 @@ returns-in-Skip-clause-right c = rw c.in-Skip.is (λ report new earned shows. ab
 
 pub returns-in-Start-clause-right : goal.returns-in-Start-clause-right
 returns-in-Start-clause-right c = rw c.in-Start.is (λ report new earned shows. absurd earned)
-
-pub returns-in-StartIsolated-clause-right : goal.returns-in-StartIsolated-clause-right
-returns-in-StartIsolated-clause-right c = rw c.in-StartIsolated.is (λ report new earned shows. absurd earned)
-
-pub returns-in-StartStrict-clause-right : goal.returns-in-StartStrict-clause-right
-returns-in-StartStrict-clause-right c = rw c.in-StartStrict.is (λ report new earned shows. absurd earned)
 
 pub returns-in-OfferTimed-clause-right : goal.returns-in-OfferTimed-clause-right
 returns-in-OfferTimed-clause-right c = rw c.in-OfferTimed.is (λ report new earned shows. absurd earned)
@@ -204,12 +192,6 @@ returns-in-Skip-clause-alone c = rw c.in-Skip.is (λ answer told. inr (inr (sym 
 
 pub returns-in-Start-clause-alone : goal.returns-in-Start-clause-alone
 returns-in-Start-clause-alone c = rw c.in-Start.is (λ answer told. inr (inr (sym told)))
-
-pub returns-in-StartIsolated-clause-alone : goal.returns-in-StartIsolated-clause-alone
-returns-in-StartIsolated-clause-alone c = rw c.in-StartIsolated.is (λ answer told. inr (inr (sym told)))
-
-pub returns-in-StartStrict-clause-alone : goal.returns-in-StartStrict-clause-alone
-returns-in-StartStrict-clause-alone c = rw c.in-StartStrict.is (λ answer told. inr (inr (sym told)))
 
 pub returns-in-OfferTimed-clause-alone : goal.returns-in-OfferTimed-clause-alone
 returns-in-OfferTimed-clause-alone c = rw c.in-OfferTimed.is (λ answer told. inr (inr (sym told)))
