@@ -20,7 +20,7 @@ returns-in_err-found-clause-front g c =
 
 pub returns-in-Wrong-clause-told : goal.returns-in-Wrong-clause-told
 returns-in-Wrong-clause-told g c =
-    told_wrong (g.R.ByteSource.remaining c.args.source.now) _ _ c.loop-found.replay.script c.check_next.new.replay.script c.loop-found.tally c.check_next.new.tally (g.W.ByteSink.contents c.args.sink.now) (g.W.ByteSink.contents c.loop-found.sink) (g.W.ByteSink.contents c.check_next.new.sink) c.in_ok-found.field-0 c.in-Some.found c.in-Wrong.fault.now c.owes_nothing.result c.in-Some.is c.in-Wrong.is c.owes_nothing.ensures c.loop-found.invariant.told c.in_ok-found.ensures.told c.in_ok-found.ensures.on
+    told_wrong (g.R.ByteSource.remaining c.args.source.now) _ _ c.loop-found.replay.script c.check_next.new.replay.script c.loop-found.tally c.check_next.new.tally (g.W.ByteSink.contents c.args.sink.now) (g.W.ByteSink.contents c.loop-found.sink) (g.W.ByteSink.contents c.check_next.new.sink) c.in_ok-found.field-0 c.in-Some.found c.in-Wrong.fault c.owes_nothing.result c.in-Some.is c.in-Wrong.is c.owes_nothing.ensures c.loop-found.invariant.told c.in_ok-found.ensures.told c.in_ok-found.ensures.on
 
 pub loop-found-preserved : goal.loop-found-preserved
 loop-found-preserved g c =
