@@ -584,6 +584,7 @@ class Standing(NoHarm):
         threads = [threading.Thread(target=client, args=(session,)) for session in sessions]
         for thread in threads:
             thread.start()
+        self.wait_for(lambda: live.report is not None)  # later ones may end before their first round
         began, latest = time.monotonic(), time.monotonic() + SOON
         while time.monotonic() < (began + 6.0 if len(live.earlier) > 5 else latest):
             time.sleep(0.15)

@@ -10,7 +10,9 @@ from zanteyard import AbortedError, Logged, Session, audited, smaller, tell_viol
 from zanteyard.explain import _shrinking as shrinking
 from zanteyard.explain._audited import named, refuted
 from zanteyard.program._auditor import PROGRAM
+from zanteyard.explain._fewest import fewest
 from zanteyard.explain._reasons import explain_history
+from zanteyard.promises._kinds import ALL
 from zanteyard.stores.memory import MemoryStore
 from zanteyard.explain._shrinking import Part
 from zanteyard.explain._words import statements_of
@@ -64,6 +66,23 @@ def history_of(workload, fault, honest, count=MOST, clients=8):
             running[session] = session.begin()
             workload(running[session], session.number)
     return records.history
+
+
+def random_history(dice):
+    """Few transactions that read any version of a key that there is, at any time."""
+    keys = "xyz"[: dice.randrange(1, 4)]
+    ids = [(session, number) for session in range(dice.randrange(2, 5)) for number in range(dice.randrange(1, 4))]
+    writes = {id: [key for key in keys if dice.random() < 0.4] for id in ids}
+    history, moment = [[] for _ in range(ids[-1][0] + 1)], 0
+    for id in ids:
+        moment += dice.randrange(3)
+        reads = [
+            (key, dice.choice(["init", *(other for other in ids if key in writes[other] and other != id)]))
+            for key in keys if dice.random() < 0.5
+        ]
+        span = (moment, moment + dice.randrange(4), "ns")
+        history[id[0]].append(Logged(reads, writes[id], span=span))
+    return history
 
 
 def told_of(history):
@@ -125,6 +144,44 @@ class Shrinking(unittest.TestCase):
         sizes.clear()
         self.assertEqual(smaller(history, seconds=SLOW * SECONDS, known={(0, 0)}), wanted)  # these aren't violated by themselves
         self.assertEqual(sizes[1], whole)
+
+    def test_it_does_not_matter_which_violation_a_refutation_has_led_to(self):
+        """Of few transactions the same ones are shown, and of many no more."""
+        for fault, honest, count in (("write-skew", 60, 120), ("lost-update", 200, 280)):
+            history = history_of(workloads()["mixed"], fault, honest, count)
+            found, left = [], Part.of(history)
+            for _ in range(4):  # each time without the readers of the last refutation
+                refuted = left.refuted(PROGRAM)
+                if refuted is None:
+                    break
+                small = smaller(history, seconds=SLOW * SECONDS, known=refuted.ids)
+                self.check_least(small)
+                found.append(small)
+                left = Part({
+                    id: logged._replace(reads=()) if id in refuted.ids else logged
+                    for id, logged in left.txns.items()
+                })
+            with self.subTest(fault=fault):
+                self.assertGreater(len(found), 1)
+                sizes = {len(told_of(small)) for small in found}
+                self.assertLessEqual(max(sizes), 8)
+                if len(Part.of(history).txns) <= shrinking.WHOLE:
+                    self.assertEqual(len(sizes), 1)
+
+    def test_a_part_of_few_is_found_for_each_promise(self):
+        """What is derived here is what the auditor finds violated, and nothing else, for histories
+        of a few transactions at random."""
+        for seed in range(40):
+            history = random_history(random.Random(seed))
+            for promise in ALL:
+                part = Part.of(history, promise)
+                found = fewest(part.txns, promise, len(part.txns))
+                with self.subTest(seed=seed, promise=promise.name):
+                    self.assertEqual(bool(found), part.refuted(PROGRAM) is not None)
+                    self.assertEqual(found, fewest(dict(reversed(part.txns.items())), promise, len(part.txns)))
+                    for ids in found[:1]:
+                        self.assertIsNotNone(part.only(ids).refuted(PROGRAM))
+                        self.assertEqual(fewest(part.txns, promise, len(ids) - 1), [])
 
     def test_what_a_refutation_names_behind_a_cut(self):
         """In each session a first transaction stands for what was forgotten."""

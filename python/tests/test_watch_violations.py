@@ -92,8 +92,9 @@ class Refutations(unittest.TestCase):
 
 @unittest.skipUnless(os.path.isfile(PROGRAM), f"{PROGRAM} is not built")
 class Explained(unittest.TestCase):
-    def of(self, *lines, answered=NOTHING):
-        """The violation that a round after these lines finds."""
+    def told(self, *lines):
+        """The replies to a round after these lines and to what asks for what is left, and the
+        round's report."""
         saved = [["save", "marks"], ["save", "last", 0]]
         saved += [["save", "remain", session, 0] for session in range(3)]
         script = [["open", 3, 64, 2], *lines, ["round", 4096, 0, 1], *saved]
@@ -102,6 +103,14 @@ class Explained(unittest.TestCase):
         ).stdout.splitlines()
         report = json.loads(told[-6])
         self.assertEqual(report[2], "violated", told)
+        return told, report
+
+    def of(self, *lines, about=(), answered=NOTHING):
+        """The violation that a round after these lines finds. The refutation is that of the lines
+        `about`, if there are any: which one of several an auditor finds is its own affair."""
+        told, report = self.told(*lines)
+        if about:
+            report[4] = self.told(*about)[1][4]
         held = Held(Kept([text(["resume", 3, 64, 2]), *told[-5:]]), report)
         self.involved = held.involved()
         found = explained(1, report, held, answered, PROGRAM, feed.AT)
@@ -309,7 +318,7 @@ class Explained(unittest.TestCase):
             feed.offer(2, 0, [[[8, "init"], [8, 0, 1]], [8]]),
         ]
         for lines in ([*fractured, *lost], [fractured[0], *lost, fractured[1]]):
-            found = self.of(*lines)
+            found = self.of(*lines, about=fractured)
             self.assertEqual(found.title, "lost update")
             self.assertEqual([one.id for one in found.told], [(0, 1), (2, 0)])
             self.assertEqual(self.involved, [(0, 1), (2, 0), (0, 0), (1, 0)])

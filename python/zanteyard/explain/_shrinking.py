@@ -5,7 +5,7 @@ from __future__ import annotations
 
 import os
 import time
-from collections.abc import Container, Iterable, Iterator, Mapping
+from collections.abc import Container, Iterable, Iterator, Mapping, Set
 from concurrent.futures import ThreadPoolExecutor
 from itertools import islice
 from typing import Any, NamedTuple
@@ -20,14 +20,22 @@ from ._anomalies import FORK, FRACTURED, SKEW, STALE, UNREPEATABLE, anomaly_in
 from ._arcs import transaction_of
 from ._audited import START, Holding, audited_apart, from_start, named, only_keys
 from ._audited import wrong_sources
+from ._cycles import G2, NONADJACENT, SINGLE
+from ._fewest import fewest
+from ._nearest import Links
 from ._lost_updates import lost_updates
 from ._reasons import explanation_of
 
 SECONDS = 5.0  # seconds for reducing a history
-# Cycles that give way to a lost update, if there is one of at most the same size.
-LESS_PLAIN = (None, UNREPEATABLE, FRACTURED, STALE, FORK, SKEW)
+# The plainest first: cycles that give way to a lost update, if there is one of at most their size.
+LESS_PLAIN = (SKEW, STALE, UNREPEATABLE, FRACTURED, FORK, SINGLE, NONADJACENT, G2, None)
 SMALL = 40  # transactions of a part whose anomaly stays the same while it is reduced, at most
 SIDE_BY_SIDE = max(1, min(4, os.cpu_count() or 1))  # auditors
+TRIED = 4  # candidates of the same kind that are tried, at most
+# The fewest transactions that are violated are looked for in the whole if it has at most so many;
+WHOLE = 128
+# else first among the nearest, and if they are more than ENOUGH, among more.
+NEAREST, NEAR, ENOUGH = 64, 96, 4
 
 
 def is_violated(
@@ -82,8 +90,7 @@ class Part:
         kept = {id for id in ids if id in self.txns}
         for id in [*kept]:
             kept.update(source for _, source in self.wrong_reads(self.txns[id]))
-        txns = {id: logged for id, logged in self.txns.items() if id in kept}
-        less = {id: self.less_reads(logged, kept) for id, logged in txns.items()}
+        less = {id: self.less_reads(self.txns[id], kept) for id in sorted(kept)}
         return Part(less, self.promise)
 
     def wrong_reads(self, logged: Logged) -> Iterator[tuple[str, ShownId]]:
@@ -157,6 +164,10 @@ class Part:
                     less = {**self.txns, id: logged._replace(writes=writes)}
                     yield (id, (key,)), Part(less, self.promise)
 
+    def own(self) -> int:
+        """How many of the transactions are the collector's own."""
+        return sum(any(map(is_own, logged.writes)) for logged in self.txns.values())
+
     def history(self, sessions: int) -> History:
         """The part as a history, with idle transactions in the gaps, so that all keep their
         numbers."""
@@ -179,6 +190,19 @@ class Part:
         }
 
 
+class Found(NamedTuple):
+    """A violated part and its refutation."""
+
+    part: Part
+    refuted: Refuted
+
+    def rank(self) -> tuple[int, int, int]:
+        """By which the violation that is easiest to understand is the least one."""
+        anomaly = self.refuted.anomaly
+        kind = LESS_PLAIN.index(anomaly) + 1 if anomaly in LESS_PLAIN else 0
+        return len(self.part.txns), self.part.own(), kind
+
+
 def smaller(
     history: History,
     program: str = PROGRAM,
@@ -188,9 +212,10 @@ def smaller(
 ) -> History:
     """A part of a violated history that is violated and from which nothing more can be left out, or
     the smallest one found within this many seconds. First, only what a refutation names is kept, as
-    long as that leaves something out; then single transactions, reads and writes are left out. If
-    `known`, what a refutation of the whole names, is given, it is tried first, since checking the
-    whole takes longest. Returns the history itself if it isn't violated."""
+    long as that leaves something out. Then fewer transactions are looked for near these, and in the
+    end single transactions, reads and writes are left out. If `known`, what a refutation of the
+    whole names, is given, it is tried first, since checking the whole takes longest. Returns the
+    history itself if it isn't violated."""
     ends = time.monotonic() + seconds
     whole = Part.of(history, promise)
     part = whole.only(known)
@@ -199,23 +224,66 @@ def smaller(
         part, refuted = whole, whole.refuted(program)
     if refuted is None:
         return history
-    part, refuted = by_names(part, refuted, program)
-    needed: set[Any] = set()  # what one part needs, its smaller parts need, too
-    while time.monotonic() < ends:
-        lesser = next_smaller(part, refuted.anomaly, needed, program, ends)
-        if lesser is None:
-            break
-        part, refuted = by_names(*lesser, program)
+    found = reduced(by_names(Found(part, refuted), program), program, ends, NEAR)
+    part, refuted = reduced(fewest_near(whole, found, program, ends), program, ends)
     if len(part.txns) <= SMALL and refuted.anomaly in LESS_PLAIN:
         part = lost_update_if_any(whole, part, program)
     return part.history(len(history))
+
+
+def reduced(found: Found, program: str, ends: float, enough: int = 0) -> Found:
+    """What is left if as much as possible is left out, or if at most `enough` transactions remain,
+    or the time is up."""
+    needed: set[Any] = set()  # what one part needs, its smaller parts need, too
+    while len(found.part.txns) > enough and time.monotonic() < ends:
+        lesser = next_smaller(found, needed, program, ends)
+        if lesser is None:
+            break
+        found = by_names(lesser, program)
+    return found
+
+
+def fewest_near(whole: Part, found: Found, program: str, ends: float) -> Found:
+    """The fewest transactions that are found to be violated by themselves near this part; among as
+    many, those that are understood best. So it hardly matters which of several violations a
+    refutation has led to, least of all if the whole has few transactions."""
+
+    def refuted(candidate: Part) -> Refuted | None:
+        return candidate.refuted(program)
+
+    is_plainest = found.rank() <= (2, 0, 0) and len(whole.txns) > WHOLE
+    if is_plainest or len(found.part.txns) > NEAR or time.monotonic() > ends:
+        return found
+    candidates = [whole.only(ids) for ids in _fewest_near(whole, {*found.part.txns}, ends)]
+    tried = sorted(candidates, key=Part.own)[:TRIED]
+    with ThreadPoolExecutor(SIDE_BY_SIDE) as pool:
+        both = [*zip(tried, pool.map(refuted, tried))]
+    others = (Found(candidate, its) for candidate, its in both if its is not None)
+    return min([*others, found], key=Found.rank)
+
+
+def _fewest_near(whole: Part, ids: Set[ShownId], ends: float) -> list[frozenset[ShownId]]:
+    """They are looked for among the nearest, and if they are many, among more."""
+    promise = whole.promise
+    if len(whole.txns) <= WHOLE:
+        return fewest(whole.txns, promise, len(ids))
+    links = Links(whole.txns)
+    found = fewest(whole.only(links.nearest(ids, NEAREST)).txns, promise, len(ids))
+    while True:
+        ids = found[0] if found else ids
+        if len(ids) <= ENOUGH or time.monotonic() > ends:
+            return found
+        fewer = fewest(whole.only(links.nearest(ids, NEAR)).txns, promise, len(ids) - 1)
+        if not fewer:
+            return found
+        found = fewer
 
 
 def lost_update_if_any(whole: Part, part: Part, program: str) -> Part:
     """A lost update of at most as many transactions, since people understand it best. Else the
     part."""
     found = (it for it in _lost_updates(whole) if len(it.txns) <= len(part.txns))
-    for candidate in islice(found, SIDE_BY_SIDE):
+    for candidate in islice(found, TRIED):
         if candidate.refuted(program) is not None:
             return candidate
     return part
@@ -229,7 +297,7 @@ def _lost_updates(whole: Part) -> Iterator[Part]:
         return is_known and key != START and not is_own(key)
 
     deeds = (
-        (id, [read for read in logged.reads if may_be_one(*read)], logged.writes)
+        (id, [it for it in logged.reads if may_be_one(*it)], logged.writes)
         for id, logged in sorted(whole.txns.items())
     )
     for key, source, one, other in lost_updates(deeds):
@@ -242,25 +310,24 @@ def _lost_updates(whole: Part) -> Iterator[Part]:
         yield Part(txns, whole.promise)
 
 
-def by_names(part: Part, refuted: Refuted, program: str) -> tuple[Part, Refuted]:
+def by_names(found: Found, program: str) -> Found:
     """Keeps only what refutations name, until nothing changes."""
     while True:
-        fewer = part.only(refuted.ids)
-        if len(fewer.txns) >= len(part.txns):
-            return part, refuted
-        left = fewer.refuted(program)
-        if left is None:
-            return part, refuted
-        part, refuted = fewer, left
+        fewer = found.part.only(found.refuted.ids)
+        if len(fewer.txns) >= len(found.part.txns):
+            return found
+        refuted = fewer.refuted(program)
+        if refuted is None:
+            return found
+        found = Found(fewer, refuted)
 
 
-def next_smaller(
-    part: Part, anomaly: str | None, needed: set[Any], program: str, ends: float
-) -> tuple[Part, Refuted] | None:
+def next_smaller(found: Found, needed: set[Any], program: str, ends: float) -> Found | None:
     """A part with one thing less, and its refutation; None if everything is needed, or the time is
     up. A read or a write stays if leaving it out would lose the anomaly's name. Several auditors
     run in parallel, since one takes longer to start than to check few transactions. Of a large
     part, one at a time: so the last ends soon after the time is up."""
+    part, anomaly = found.part, found.refuted.anomaly
     side_by_side = SIDE_BY_SIDE if len(part.txns) <= LIMIT else 1
 
     def refuted(candidate: Part) -> Refuted | None:
@@ -273,12 +340,12 @@ def next_smaller(
             if not some:
                 break
             candidates = [candidate for _, candidate in some]
-            for (what, candidate), found in zip(some, pool.map(refuted, candidates)):
+            for (what, candidate), its in zip(some, pool.map(refuted, candidates)):
                 is_of_transactions = isinstance(what, frozenset)
-                if found is not None and (
-                    is_of_transactions or anomaly is None or found.anomaly == anomaly
+                if its is not None and (
+                    is_of_transactions or anomaly is None or its.anomaly == anomaly
                 ):
-                    return candidate, found
-                if found is None:
+                    return Found(candidate, its)
+                if its is None:
                     needed.add(what)
     return None
