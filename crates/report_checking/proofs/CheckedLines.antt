@@ -1,23 +1,18 @@
 -- What is found of stored replies, and of a script.
-use Rattle.std.proofs.Common.{◌≡◌, ◌≢◌, ℕ, ◌*◌, ◌≤◌, List, [], ◌∷◌, ◌++◌, append_assoc, append-nil, Option, Some, None, Bool, true, false, refl, ap, sym, ◌∙◌, subst, arith, inl, inr}
+use Rattle.std.proofs.Common.{◌≡◌, ◌≢◌, ℕ, ◌≤◌, List, [], ◌∷◌, ◌++◌, append_assoc, append-nil, Option, Some, None, Bool, true, false, refl, ap, sym, ◌∙◌, subst, arith, inl, inr}
 use Rattle.txn.specs.declared.refusals.Refusal.TheVariants.{BadLine}
 use Rattle.log_text.specs.declared.commands.Command.{Command}
 use Rattle.log_text.specs.declared.commands.Command.TheVariants.{Start, Collect}
 use Rattle.log_text.specs.declared.versions.Opening.{Opening}
 use Rattle.log_text.specs.declared.versions.Opening.TheVariants.{Ordered, Isolated}
 use Rattle.log_text.specs.declared.versions.Promise.TheVariants.{Resumable}
-use Rattle.log_text.specs.declared.versions.Version.{Version}
-use Rattle.log_text.specs.Versions.{most_sessions}
 use Rattle.log_text.specs.declared.replies.Reply.TheVariants as told
 use Rattle.byte_lines.specs.declared.lines.Next.{Next}
 use Rattle.byte_lines.specs.declared.lines.Next.TheVariants.{Line, TooLong, End}
 use Rattle.byte_lines.specs.LineReaders.{LineState, lines_ahead, IsNextOf}
 use Rattle.byte_lines.specs.Lines.{lines}
-use Rattle.round_state.specs.Opening.{fresh_state}
 use Rattle.round_state.specs.EngineState.{EngineState}
 use Rattle.round_state.specs.Legal.{State}
-use Rattle.round_state.specs.Runs.{Holds}
-use Rattle.isolation_scripts.specs.Legal.{HoldsSplit}
 use Rattle.cobra.specs.Outputs.{Asks, IsTold}
 use Rattle.cobra.specs.Scripts.{MayBegin, opened_state}
 use Rattle.report_checking.specs.Checking.{TakesMemory, Checks, start, right, unchecked}
@@ -27,7 +22,6 @@ use Rattle.report_checking.specs.Reading.{HoldsIn, HoldsScript, LeadsScript, May
 use Rattle.report_checking.specs.declared.findings.Found.{Found}
 use Rattle.report_checking.specs.declared.open_scripts.OpenScript.{OpenScript}
 use Rattle.report_checking.specs.declared.findings.Found.TheVariants as found
-use Rattle.report_checking.specs.declared.findings.Fault.{Fault}
 use Rattle.report_checking.specs.declared.findings.Fault.TheVariants as fault
 use Rattle.report_checking.specs.declared.checking.TheConstants.{LONGEST_REPLY}
 use Rattle.report_checking.specs.declared.findings.Owed.{Owed}

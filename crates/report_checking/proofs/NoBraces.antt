@@ -1,8 +1,8 @@
 -- No brace stands in the text of a report.
-use Rattle.std.proofs.Common.{◌≡◌, ℕ, zero, suc, ◌+◌, ◌/◌, ◌%◌, ◌<◌, ◌==◌, Bool, true, false, ◌||◌, List, [], ◌∷◌, ◌++◌, map, Option, codes, decimal, refl, sym, ap, ◌∙◌, arith}
+use Rattle.std.proofs.Common.{◌≡◌, ℕ, zero, suc, ◌/◌, ◌%◌, ◌<◌, ◌==◌, Bool, true, false, List, [], ◌∷◌, ◌++◌, map, Option, codes, decimal, refl, sym, ap, ◌∙◌, arith}
 use Rattle.std.specs.Prelude.{⊤, nat_eq, if◌then◌else◌}
 use Rattle.std.specs.Fmt.{digits, digits_onto, digit_glyph}
-use Rattle.std.specs.List.{list_any, join_with_byte}
+use Rattle.std.specs.List.{join_with_byte}
 use Rattle.std.proofs.lemmas.Bool.{false≢true}
 use Rattle.std.proofs.lemmas.List.Folds.{list_any-append}
 use Rattle.txn.specs.declared.choices.Arc.{Arc}
@@ -24,12 +24,12 @@ use Rattle.isolation_histories.specs.Halves.{event_at}
 use Rattle.isolation_histories.specs.declared.events.Event.{Event}
 use Rattle.isolation_histories.specs.declared.events.Event.TheVariants.{Begin, Commit}
 use Rattle.isolation_scripts.specs.Isolated.{halved}
-use Rattle.log_text.specs.Trees.{choice_text, arc_text, cycle_text, side_number, step_text, split_text, reader_text, leaf_text, items_of, tree_text}
+use Rattle.log_text.specs.Trees.{choice_text, arc_text, cycle_text, side_number, step_text, reader_text, leaf_text, items_of, tree_text}
 use Rattle.log_text.specs.declared.commands.Command.{Command}
 use Rattle.round_state.specs.declared.reports.Certificate.{Certificate}
 use Rattle.round_state.specs.declared.reports.Certificate.TheVariants.{Order, Refuted, Nothing}
 use Rattle.round_state.specs.declared.reports.Report.{Report}
-use Rattle.cobra.specs.StepReplies.{certified, report_of}
+use Rattle.cobra.specs.StepReplies.{certified}
 use Rattle.report_checking.specs.Isolation.{told_by}
 use Rattle.report_checking.specs.Reading.{IsFair, has_brace, names_in}
 use Rattle.report_checking.specs.declared.findings.Found.{Found}

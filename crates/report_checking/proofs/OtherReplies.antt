@@ -1,9 +1,8 @@
 -- Right replies that are no reports are told right: what is owed is the one right reply, want of memory apart.
-use Rattle.std.proofs.Common.{◌≡◌, ◌≢◌, ℕ, ◌+◌, List, length, Option, Some, None, true, false, refl, ap, sym, ◌∙◌, subst, inl, inr}
+use Rattle.std.proofs.Common.{◌≡◌, ℕ, ◌+◌, length, Option, Some, None, true, false, refl, ap, sym, ◌∙◌, subst, inl, inr}
 use Rattle.std.specs.Prelude.{Bool, not, if◌then◌else◌, ◌⊎◌, IsSomeAnd, nat_lt}
-use Rattle.serde_json.specs.Data.{Data}
 use Rattle.txn.specs.declared.refusals.Refusal.{Refusal}
-use Rattle.txn.specs.declared.refusals.Refusal.TheVariants.{BadLine, BadSession, TooLong, NoRound, RoundOpen, BadCertificate, NoMemory}
+use Rattle.txn.specs.declared.refusals.Refusal.TheVariants.{BadLine, BadSession, NoRound, RoundOpen, BadCertificate, NoMemory}
 use Rattle.logged_fragments.specs.declared.logged.LoggedFragment.{LoggedFragment}
 use Rattle.order_check.specs.declared.remainder.Kind.{Kind}
 use Rattle.order_check.specs.declared.remainder.Parts.{Parts}
@@ -13,9 +12,7 @@ use Rattle.log_text.specs.declared.saved.Saved.{Saved}
 use Rattle.log_text.specs.declared.saved.Saved.TheVariants as saved
 use Rattle.polygraph.specs.declared.solving.Answer.{Answer}
 use Rattle.polygraph.specs.declared.solving.Answer.TheVariants as answers
-use Rattle.settle.specs.declared.cuts.Cut.{Cut}
 use Rattle.log_text.specs.ReadBack.{IsSameTree, IsSameShown}
-use Rattle.log_text.specs.Replies.{text_of}
 use Rattle.log_text.specs.declared.commands.Command.{Command}
 use Rattle.log_text.specs.declared.commands.Command.TheVariants as command
 use Rattle.log_text.specs.declared.commands.Wanted.{Wanted}
@@ -26,10 +23,8 @@ use Rattle.log_text.specs.declared.searches.Search.{Search}
 use Rattle.log_text.specs.declared.shown.Shown.{Shown}
 use Rattle.log_text.specs.declared.shown.Shown.TheVariants as shown
 use Rattle.log_text.specs.declared.versions.Version.{Version}
-use Rattle.byte_lines.specs.declared.lines.Next.{Next}
 use Rattle.round_state.specs.EngineState.{EngineState}
 use Rattle.round_state.specs.Legal.{State, Legal}
-use Rattle.round_state.specs.Opening.{IsSessions, IsLimit, IsOpenRefusal}
 use Rattle.round_state.specs.Solving.{IsRight, IsWrong, IsReportOn}
 use Rattle.round_state.specs.Steps.{StepsTo, IsCloseRefusal, IsAbandonRefusal, IsFinishRefusal, IsHeldAfter, answer_claimed}
 use Rattle.round_state.specs.declared.reports.Certificate.{Certificate}
@@ -39,24 +34,17 @@ use Rattle.round_state.specs.declared.steps.Step.{Step}
 use Rattle.round_state.specs.declared.steps.Step.TheVariants as step
 use Rattle.round_state.specs.declared.steps.StepReply.{StepReply}
 use Rattle.round_state.specs.declared.steps.StepReply.TheVariants as reply
-use Rattle.cobra.specs.Outputs.{Asks, IsTold}
 use Rattle.cobra.specs.Saving.{saved_told, fragment_told}
 use Rattle.cobra.specs.Scripts.{IsTakenIn}
 use Rattle.cobra.specs.StepReplies.{claim_of, certified, report_of, reply_of}
-use Rattle.report_checking.specs.Checking.{AsksOfMemory, OpensEngine, TakesMemory, IsUnchecked}
-use Rattle.report_checking.specs.OwedLines.{OwesFirst, ScriptState}
+use Rattle.report_checking.specs.Checking.{AsksOfMemory}
 use Rattle.report_checking.specs.Owing.{IsStep, IsOfEngine, BeginsSearch, FinishesWhere, GoesOn, OwesFinish, OwesRound, OwesOpen, OwesBeside}
-use Rattle.report_checking.specs.Reading.{HoldsScript, IsToldOf, IsStepTold, IsTakenTold, IsTakenAs, IsRefusedBy, Gives, GivesFirst, GivesWhere, GivesBeside, GivesScript, MayGoOn, IsAlone, IsOtherwise, IsOtherwiseTo, IsFoundBy, IsFoundOf}
-use Rattle.report_checking.specs.RightReports.{IsNoReport, IsRightOther}
-use Rattle.report_checking.specs.declared.findings.Fault.{Fault}
-use Rattle.report_checking.specs.declared.findings.Fault.TheVariants as fault
-use Rattle.report_checking.specs.declared.findings.Found.{Found}
-use Rattle.report_checking.specs.declared.findings.Found.TheVariants as found
+use Rattle.report_checking.specs.Reading.{IsToldOf, IsStepTold, IsTakenTold, IsTakenAs, IsRefusedBy, Gives, GivesWhere, GivesBeside, IsAlone}
+use Rattle.report_checking.specs.RightReports.{IsNoReport}
 use Rattle.report_checking.specs.declared.findings.Owed.{Owed}
 use Rattle.report_checking.specs.declared.findings.Owed.TheVariants as owed
-use Rattle.report_checking.specs.declared.open_scripts.OpenScript.{OpenScript}
-use Rattle.report_checking.proofs.RightReports.{shown_then, shown_self, same_refutation}
-use Rattle.report_checking.proofs.SaidOnce.{IsOne, IsSaidOnce, IsOneWay, said_once, begun_anyway}
+use Rattle.report_checking.proofs.RightReports.{shown_self, same_refutation}
+use Rattle.report_checking.proofs.SaidOnce.{IsSaidOnce, IsOneWay, said_once, begun_anyway}
 
 -- ---- what is owed is the one right reply
 

@@ -29,7 +29,7 @@ use Rattle.cobra.specs.Scripts.{IsBadLine, IsTakenIn, state_told}
 use Rattle.cobra.specs.StepReplies.{reply_of, report_of}
 use Rattle.cobra.proofs.ReplyKinds.{judged_kind, saved_kind}
 use Rattle.report_checking.specs.Owing.{IsOwedReport, IsStep, OwesFinish, OwesRound, OwesOpen, OwesBeside, FinishesWhere, BeginsSearch, IsOfEngine, IsPlain, searched_after}
-use Rattle.report_checking.specs.OwedLines.{Owes, OwesIn, ScriptState}
+use Rattle.report_checking.specs.OwedLines.{Owes, OwesIn}
 use Rattle.report_checking.specs.Reading.{Leads, LeadsIn, LeadsScript, HoldsIn, IsOwedBy}
 use Rattle.report_checking.specs.declared.findings.Owed.{Owed}
 use Rattle.report_checking.specs.declared.open_scripts.OpenScript.{OpenScript}

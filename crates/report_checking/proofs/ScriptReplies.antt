@@ -1,6 +1,6 @@
 -- Right replies of scripts that are no reports are told right.
 use Rattle.log_text.specs.declared.names.Names.{Names}
-use Rattle.std.proofs.Common.{◌≡◌, ◌≢◌, ℕ, ◌*◌, ◌≤◌, List, Option, Some, None, true, false, refl, ap, sym, ◌∙◌, subst, inl, inr}
+use Rattle.std.proofs.Common.{◌≡◌, ◌≢◌, ℕ, List, Option, Some, None, true, false, refl, ap, sym, ◌∙◌, subst, inl, inr}
 use Rattle.std.specs.Prelude.{Bool, not, ◌⊎◌}
 use Rattle.serde_json.specs.Data.{Data}
 use Rattle.txn.specs.declared.refusals.Refusal.{Refusal}
@@ -23,7 +23,6 @@ use Rattle.log_text.specs.declared.versions.Version.{Version}
 use Rattle.byte_lines.specs.declared.lines.Next.{Next}
 use Rattle.round_state.specs.EngineState.{EngineState}
 use Rattle.round_state.specs.Legal.{State}
-use Rattle.round_state.specs.Opening.{IsSessions}
 use Rattle.round_state.specs.Steps.{StepsTo}
 use Rattle.round_state.specs.declared.reports.Certificate.{Certificate}
 use Rattle.round_state.specs.declared.reports.Certificate.TheVariants.{Order, Refuted, Nothing}
@@ -31,7 +30,6 @@ use Rattle.round_state.specs.declared.reports.Report.{Report}
 use Rattle.round_state.specs.declared.steps.Step.TheVariants as step
 use Rattle.round_state.specs.declared.steps.StepReply.{StepReply}
 use Rattle.round_state.specs.declared.steps.StepReply.TheVariants as reply
-use Rattle.isolation_histories.specs.Logged.{split_logged}
 use Rattle.isolation_scripts.specs.Isolated.{isolated_of}
 use Rattle.isolation_scripts.specs.Splitting.{CanBeAsked, IsAskedFault, split_command, split_wanted}
 use Rattle.cobra.specs.Outputs.{Asks, IsTold}

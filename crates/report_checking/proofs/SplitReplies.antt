@@ -1,6 +1,6 @@
 -- What is owed by halves, told of begins and commits, is owed of the history as it was offered.
 use Rattle.round_state.specs.declared.steps.Claim.{Claim}
-use Rattle.std.proofs.Common.{◌≡◌, ℕ, ◌+◌, List, Option, Some, None, true, false, refl, ap, sym, subst, ◌∙◌, inl, inr}
+use Rattle.std.proofs.Common.{◌≡◌, ℕ, ◌*◌, ◌+◌, List, Option, Some, None, true, false, refl, ap, sym, subst, ◌∙◌, inl, inr}
 use Rattle.std.specs.Prelude.{Bool, not, ◌⊎◌, ⊤, IsSomeAnd}
 use Rattle.txn.specs.History.{History}
 use Rattle.txn.specs.declared.refusals.Refusal.{Refusal}
@@ -42,7 +42,7 @@ use Rattle.isolation_scripts.specs.Splitting.{CanBeAsked, IsAskedFault, split_co
 use Rattle.isolation_scripts.specs.Steps.{split_step, CanBeMade}
 use Rattle.cobra.specs.Scripts.{IsBadLine, IsTakenIn, opened_state, room_of}
 use Rattle.cobra.specs.StepReplies.{reply_of, report_of, claim_of}
-use Rattle.report_checking.specs.Isolation.{IsOwedIsolation, IsIsolatedStep, EndsIsolated, IsIsolatedRound, EndsWhere, OwesSplit, OwesAsked, OwesIsolated}
+use Rattle.report_checking.specs.Isolation.{IsIsolatedStep, EndsIsolated, IsIsolatedRound, EndsWhere, OwesSplit, OwesAsked, OwesIsolated}
 use Rattle.report_checking.specs.Owing.{IsStep, OwesFinish, OwesRound, OwesOpen, OwesBeside, FinishesWhere, GoesOn, BeginsSearch, IsOfEngine, searched_after}
 use Rattle.report_checking.specs.Reading.{HoldsIn, Leads, LeadsSplit, IsOwedBy, OfRight, OwesText, IsAlone, EarnsBeside, EarnsIn, GivesBeside, GivesIsolated, isolated_owed}
 use Rattle.report_checking.specs.declared.findings.Owed.{Owed}

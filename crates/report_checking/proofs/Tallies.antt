@@ -1,10 +1,9 @@
 -- What is counted and told of one reply more.
-use Rattle.std.proofs.Common.{◌≡◌, ℕ, ◌+◌, ◌-◌, ◌^◌, min, cond, if◌then◌else◌, Bool, true, false, List, [], ◌∷◌, ◌++◌, length, count_by, append_assoc, append-nil, refl, ap, ap₂, sym, ◌∙◌, subst, arith}
+use Rattle.std.proofs.Common.{◌≡◌, ℕ, ◌+◌, cond, if◌then◌else◌, Bool, true, false, List, [], ◌∷◌, ◌++◌, length, count_by, append_assoc, append-nil, refl, ap, sym, ◌∙◌, arith}
 use Rattle.std.proofs.lemmas.List.{length-append}
 use Rattle.std.proofs.lemmas.List.Sums.{sum_by_push}
 use Rattle.order_check.specs.declared.remainder.Kind.TheVariants as kinds
 use Rattle.report_checking.specs.Telling.{as_counted, one_more, counted, owes_nothing, tally_of, no_tally, is_report, is_spent, is_unchecked, lines_told, found_line}
-use Rattle.report_checking.specs.declared.findings.Fault.{Fault}
 use Rattle.report_checking.specs.declared.findings.Found.{Found}
 use Rattle.report_checking.specs.declared.findings.Found.TheVariants as found
 use Rattle.report_checking.specs.declared.findings.What.TheVariants as what

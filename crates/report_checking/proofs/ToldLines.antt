@@ -10,7 +10,7 @@ use Rattle.byte_lines.specs.declared.lines.Next.TheVariants.{End}
 use Rattle.byte_lines.specs.LineReaders.{IsNextOf}
 use Rattle.byte_lines.specs.Lines.{lines}
 use Rattle.report_checking.specs.Checking.{FindsRight, IsAllRight, start}
-use Rattle.report_checking.specs.Outcomes.{FindsAll, FindsLines, FindsRightFirst, TellsFirst}
+use Rattle.report_checking.specs.Outcomes.{FindsAll, FindsLines, TellsFirst}
 use Rattle.report_checking.specs.Reading.{Advances, IsChecking, IsFine, LeadsOn, StopsOn, TellsFront}
 use Rattle.report_checking.specs.RightReports.{EndsUnchecked, FindsWrong, IsRightUnlessUnchecked, StopsAtWrong}
 use Rattle.report_checking.specs.Telling.{AppendsFront, TellsNext, as_counted, counted, found_line, is_unchecked, last_line, lines_told, no_tally, one_more, outcome_of, owes_nothing, tally_of, told_of}

@@ -1,5 +1,5 @@
 -- Right replies are true of what was offered, behind one order of what is gone.
-use Rattle.std.proofs.Common.{◌≡◌, ℕ, ◌*◌, true, List, [], ◌++◌, Option, Some, None, Bool, refl, sym, ◌∙◌, subst, inl, inr, append-nil}
+use Rattle.std.proofs.Common.{◌≡◌, ℕ, ◌*◌, List, [], ◌++◌, Option, Some, None, Bool, refl, sym, ◌∙◌, subst, inl, inr, append-nil}
 use Rattle.txn.specs.declared.transactions.TxnId.{TxnId}
 use Rattle.txn.specs.History.{History}
 use Rattle.log_text.specs.declared.commands.Command.{Command}

@@ -9,7 +9,6 @@ use Rattle.logged_fragments.specs.declared.logged.LoggedFragment.{LoggedFragment
 use Rattle.log_text.specs.declared.commands.Command.{Command}
 use Rattle.log_text.specs.declared.commands.Command.TheVariants.{Start, Offer, Join, Finish, Round, Collect, Resume, Save}
 use Rattle.log_text.specs.declared.names.Names.{Names}
-use Rattle.log_text.specs.declared.names.Names.TheVariants.{Ids, Events}
 use Rattle.log_text.specs.declared.shown.Shown.{Shown}
 use Rattle.log_text.specs.declared.shown.Shown.TheVariants as shown
 use Rattle.log_text.specs.declared.versions.Opening.{Opening}

@@ -1,5 +1,5 @@
 -- Which reply is owed to a line of a script: of one about orders, or of one that asks for snapshot isolation.
-use Rattle.std.specs.Prelude.{◌≡◌, ℕ, ◌*◌, ◌⊎◌, Bool, false, List, Option, Some, None}
+use Rattle.std.specs.Prelude.{◌≡◌, ℕ, ◌⊎◌, Bool, false, List, Option, Some, None}
 use Rattle.log_text.specs.declared.commands.Command.{Command}
 use Rattle.log_text.specs.declared.commands.Command.TheVariants.{Start, Resume}
 use Rattle.log_text.specs.declared.names.Names.{Names}
@@ -8,9 +8,7 @@ use Rattle.log_text.specs.declared.replies.Reply.{Reply}
 use Rattle.log_text.specs.declared.replies.Reply.TheVariants as told
 use Rattle.log_text.specs.declared.versions.Opening.{Opening}
 use Rattle.log_text.specs.declared.versions.Opening.TheVariants.{Ordered, Isolated}
-use Rattle.log_text.specs.Versions.{most_sessions}
 use Rattle.round_state.specs.Legal.{State}
-use Rattle.round_state.specs.Opening.{fresh_state}
 use Rattle.cobra.specs.Outputs.{Asks}
 use Rattle.cobra.specs.Scripts.{IsBadLine, IsBeginningRefusal, MayBegin, opened_state}
 use Rattle.log_text.specs.Versions.{names_of}

@@ -12,7 +12,6 @@ use Rattle.report_checking.specs.declared.findings.Found.{Found}
 use Rattle.report_checking.specs.declared.findings.Found.TheVariants as found
 use Rattle.report_checking.specs.declared.findings.Outcome.{Outcome}
 use Rattle.report_checking.specs.declared.findings.Outcome.TheVariants as outcomes
-use Rattle.report_checking.specs.declared.findings.Unshown.{Unshown}
 use Rattle.report_checking.specs.declared.findings.Unshown.TheVariants as unshown
 use Rattle.report_checking.specs.declared.findings.What.{What}
 use Rattle.report_checking.specs.declared.findings.What.TheVariants as what

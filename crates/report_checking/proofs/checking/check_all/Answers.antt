@@ -1,5 +1,5 @@
 use Rattle.report_checking.proofs.Fronts.{on_err}
-use Rattle.report_checking.proofs.ToldLines.{EndsAs, all_right, ends_as, right_so_far, stops_wrong, told_last, told_whole}
+use Rattle.report_checking.proofs.ToldLines.{all_right, ends_as, right_so_far, stops_wrong, told_last, told_whole}
 use Rattle.report_checking.proofs.checking.check_all.Goals as goal
 
 pub returns-in_err-tell_tally-clause-front : goal.returns-in_err-tell_tally-clause-front

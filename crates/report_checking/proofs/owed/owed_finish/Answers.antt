@@ -1,4 +1,4 @@
-use Rattle.std.proofs.Common.{◌+◌, sym, subst, ap, ◌∙◌}
+use Rattle.std.proofs.Common.{◌+◌, sym, subst}
 use Rattle.log_text.specs.Replies.{HasKindOfOrder}
 use Rattle.report_checking.proofs.EarnedReports.{earned_kind}
 use Rattle.report_checking.proofs.OwedReplies.{report_owed, no_round_owed}

@@ -5,7 +5,7 @@ use Rattle.round_state.specs.declared.steps.Step.TheVariants as step
 use Rattle.report_checking.specs.Reading.{IsToldOf}
 use Rattle.report_checking.proofs.RightReports.{right_judged}
 use Rattle.report_checking.proofs.OwedReplies.{show_owed, saved_owed, out_of_place}
-use Rattle.report_checking.proofs.OtherReplies.{told_alone, taken_alone, judged_alone, finish_alone, one_alone}
+use Rattle.report_checking.proofs.OtherReplies.{told_alone, taken_alone, judged_alone, finish_alone}
 use Rattle.report_checking.specs.Unshown.{EndsWrong}
 use Rattle.report_checking.proofs.UnshownReplies.{unshows_told, unshows_taken}
 use Rattle.report_checking.proofs.owed.owed_open.Goals as goal

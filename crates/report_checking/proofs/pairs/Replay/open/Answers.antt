@@ -1,4 +1,4 @@
-use Rattle.std.proofs.Common.{Some, false, sym, subst}
+use Rattle.std.proofs.Common.{Some, sym, subst}
 use Rattle.log_text.specs.declared.commands.Command.TheVariants.{Start}
 use Rattle.log_text.specs.declared.versions.Promise.TheVariants.{Resumable}
 use Rattle.log_text.specs.declared.replies.Reply.TheVariants as told
