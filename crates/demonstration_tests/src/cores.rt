@@ -76,8 +76,9 @@ fn round(alloc: Global, core: &mut Core, budget: u64) -> Option<(u64, Kind, bool
         Err(_) => return None,
     };
     let answer = Single.solve(alloc, &problem, budget, 0, 1);
-    match core.answered(answer) {
-        (Entry::Report(report), more) => Some((report.round, report.kind, more.is_some())),
+    let (outcome, more) = core.answered(answer);
+    match &outcome {
+        Entry::Report(report) => Some((report.round, report.kind, more.is_some())),
         _ => None,
     }
 }
