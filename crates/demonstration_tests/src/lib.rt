@@ -2,8 +2,6 @@
 #![tactic(auto)]
 
 #[cfg(test)]
-mod cores;
-#[cfg(test)]
 mod crowds;
 #[cfg(test)]
 mod demonstrations;
@@ -13,7 +11,5 @@ mod held_search;
 mod holding;
 #[cfg(test)]
 mod judging;
-#[cfg(test)]
-mod publishing;
 #[cfg(test)]
 mod stage;
