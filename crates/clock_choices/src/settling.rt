@@ -7,7 +7,7 @@ ghost use Rattle.order_check.specs.declared.remainder.Parts.{Parts};
 ghost use Rattle.session_clocks.specs.Graphs.{HasNode};
 ghost use Rattle.clock_choices.specs.declared.runs.Run.{Run};
 ghost use Rattle.clock_choices.specs.Extending.{Extends, reached_in};
-ghost use Rattle.clock_choices.specs.Forcing.{AreRunChoices, Decides, Forces, IsGrowth, IsRunSettled, IsSideSettled, choice_of};
+ghost use Rattle.clock_choices.specs.Forcing.{AreRunChoices, Decides, Forces, IsForcedIn, IsGrowth, IsRunSettled, IsSideSettled, choice_of};
 ghost use Rattle.clock_choices.specs.Index.{IsRunThere};
 
 use crate::reads::Read;
@@ -78,7 +78,38 @@ fn forced_behind(graph: &Graph, read: Read, run: &Run, guess: usize) -> Option<T
     Some(first)
 }
 
-/// Takes the side of the choice with the writer that was found, if one was.
+/// Takes the side of the choice with this writer.
+fn take(
+    alloc: Global,
+    graph: &mut Graph,
+    steps: &mut Vec<Forced>,
+    told: &mut Vec<TxnId>,
+    read: Read,
+    side: Side,
+    other: TxnId,
+) -> Result<(), NoMemory>
+    requires reader { HasNode graph.old read.reader }
+    requires writer { HasNode graph.old read.writer }
+    requires other { HasNode graph.old other }
+    ensures extends { Extends graph.old graph.new }
+    ensures growth { OnOk result (IsGrowth (reached_in graph.old) told.old.items (reached_in graph.new) told.new.items) }
+    ensures forces { OnOk result ((parts : Parts) (run : Run) → IsForcedIn (reached_in graph.old) side read run other → AreRunChoices parts read run
+        → Forces parts graph.old steps.old.items graph.new steps.new.items) }
+    ensures settled { OnOk result ((run : Run) → IsRunThere graph.old.gone graph.old.received run → IsForcedIn (reached_in graph.old) side read run other
+        → IsSideSettled (reached_in graph.new) told.new.items side read run) }
+{
+    let step = Forced {
+        choice: choice_of(read, other),
+        side,
+        arcs: graph.arcs().len(),
+    };
+    let (from, to) = step.conclusion();
+    steps.push(step)?;
+    graph.add_arc(alloc, Arc::Taken { from, to }, told)?;
+    Ok(())
+}
+
+/// Takes the side of the choice with the writer that was found, if one was. Mostly none was, so that this is to be short.
 fn force(
     alloc: Global,
     graph: &mut Graph,
@@ -101,15 +132,7 @@ fn force(
     let Some(other) = found else {
         return Ok(());
     };
-    let step = Forced {
-        choice: choice_of(read, other),
-        side,
-        arcs: graph.arcs().len(),
-    };
-    let (from, to) = step.conclusion();
-    steps.push(step)?;
-    graph.add_arc(alloc, Arc::Taken { from, to }, told)?;
-    Ok(())
+    take(alloc, graph, steps, told, read, side, other)
 }
 
 /// Settles a read with the writers in a run: first what stands before the reader, and then what stands behind the writer.

@@ -1,36 +1,15 @@
-use Rattle.std.proofs.Common.{◌≡◌, ◌++◌, ◌∷◌, [], List, Option, MatchOption, length, ap, sym, subst, subst₂}
+use Rattle.std.proofs.Common.{Option, MatchOption, subst}
 use Rattle.std.specs.Prelude.{⊤}
-use Rattle.txn.specs.declared.choices.Arc.{Arc}
-use Rattle.txn.specs.declared.choices.Arc.TheVariants.{Taken}
+use Rattle.std.proofs.lemmas.Result.{on_ok_weaker}
 use Rattle.txn.specs.declared.transactions.TxnId.{TxnId}
 use Rattle.session_clocks.specs.Graphs.{HasNode}
-use Rattle.clock_choices.specs.declared.runs.Run.{Run}
-use Rattle.clock_choices.specs.declared.steps.Forced.{Forced}
 use Rattle.clock_choices.specs.Extending.{reached_in}
-use Rattle.clock_choices.specs.Extending.{Extends}
-use Rattle.clock_choices.specs.Forcing.{Decides, ForcesOver, IsForcedIn, IsGrowth, IsTaken, choice_of, forced, unforced}
-use Rattle.clock_choices.specs.Index.{IsRunThere}
-use Rattle.clock_choices.specs.Steps.{taken_arc}
-use Rattle.clock_choices.proofs.Extending.{on_new}
-use Rattle.clock_choices.proofs.Growths.{by_last, growth_none, growth_told, settled_by, side_there}
+use Rattle.clock_choices.specs.Forcing.{Decides, unforced}
+use Rattle.clock_choices.proofs.Growths.{growth_none}
 use Rattle.clock_choices.proofs.settling.force.Goals as goal
-use Rattle.clock_choices.proofs.settling.force.Goals.{In_ok-add_arc}
 
-pub add_arc-requires : goal.add_arc-requires
-add_arc-requires c =
-    let there = subst (λ (found : Option TxnId). MatchOption found ⊤ (HasNode c.args.graph.now)) c.in-Some.is c.requires.found in
-    let both = side_there (HasNode c.args.graph.now) c.args.side c.args.read c.in-Some.other c.requires.reader c.requires.writer there in
-    rw (c.conclusion.ensures, c.choice_of.ensures) record { start = both.0; end = both.1 }
-
--- the graph has the side's arc, of which that was told
-extends : (c : In_ok-add_arc) → Extends c.args.graph.now c.add_arc.new.self
-extends c = record { gone = c.add_arc.ensures.gone; received = c.add_arc.ensures.received; last = c.add_arc.ensures.last }
-
-growth : (c : In_ok-add_arc) → IsGrowth (reached_in c.args.graph.now) c.args.told.now.items (reached_in c.add_arc.new.self) c.add_arc.new.told.items
-growth c = growth_told (Taken c.conclusion.result.0 c.conclusion.result.1) c.args.told.now.items c.add_arc.new.told.items (extends c) c.in_ok-add_arc.ensures.arcs c.in_ok-add_arc.ensures.told c.in_ok-add_arc.ensures.front
-
-decided : (c : In_ok-add_arc) (run : Run) → Decides (reached_in c.args.graph.now) c.args.side c.args.read run c.args.found → IsForcedIn (reached_in c.args.graph.now) c.args.side c.args.read run c.in-Some.other
-decided c run decides = subst (λ (found : Option TxnId). Decides (reached_in c.args.graph.now) c.args.side c.args.read run found) c.in-Some.is decides
+pub take-requires-clause-other : goal.take-requires-clause-other
+take-requires-clause-other c = subst (λ (found : Option TxnId). MatchOption found ⊤ (HasNode c.args.graph.now)) c.in-Some.is c.requires.found
 
 pub returns-in_default-clause-growth : goal.returns-in_default-clause-growth
 returns-in_default-clause-growth c = growth_none (reached_in c.args.graph.now) c.args.told.now.items
@@ -38,23 +17,10 @@ returns-in_default-clause-growth c = growth_none (reached_in c.args.graph.now) c
 pub returns-in_default-clause-forces : goal.returns-in_default-clause-forces
 returns-in_default-clause-forces c parts run decides choices = unforced
 
-pub returns-clause-growth : goal.returns-clause-growth
-returns-clause-growth c = growth c
-
 pub returns-clause-forces : goal.returns-clause-forces
-returns-clause-forces c parts run decides choices =
-    let graph = c.args.graph.now in
-    let is = decided c run decides in
-    let step : Forced = record { choice = choice_of c.args.read c.in-Some.other; side = c.args.side; arcs = length c.arcs.result.now } in
-    let arcs : c.add_arc.new.self.arcs ≡ graph.arcs ++ taken_arc step ∷ [] = rw (c.conclusion.ensures, c.choice_of.ensures) at c.in_ok-add_arc.ensures.arcs in
-    let steps : c.push.new.self.items ≡ c.args.steps.now.items ++ step ∷ [] = rw c.choice_of.ensures at c.in_ok-push.ensures.items in
-    subst₂ (λ (arcs : List Arc) (steps : List Forced). ForcesOver parts graph.gone graph.received graph.arcs c.args.steps.now.items arcs steps) (sym arcs) (sym steps)
-    (forced step unforced (record { choice_of = choices c.in-Some.other is.found; ready = is.ready; new = is.new; place = ap length c.arcs.ensures }))
+returns-clause-forces c = on_ok_weaker c.take.result
+    (λ forces parts run decides choices. forces parts run (subst (λ (found : Option TxnId). Decides (reached_in c.args.graph.now) c.args.side c.args.read run found) c.in-Some.is decides) choices) c.take.ensures.forces
 
 pub returns-clause-settled : goal.returns-clause-settled
-returns-clause-settled c run there decides =
-    let new = c.add_arc.new.self in
-    let other = c.in-Some.other in
-    let taken : IsTaken (reached_in new) c.args.side c.args.read other =
-    rw (c.conclusion.ensures, c.choice_of.ensures) at (by_last new.gone new.received c.args.graph.now.arcs new.arcs (Taken c.conclusion.result.0 c.conclusion.result.1) c.in_ok-add_arc.ensures.arcs) in
-    settled_by new (growth c) c.args.read run (on_new (λ gone received. IsRunThere gone received run) (extends c) there) c.args.side other (decided c run decides) taken
+returns-clause-settled c = on_ok_weaker c.take.result
+    (λ settled run there decides. settled run there (subst (λ (found : Option TxnId). Decides (reached_in c.args.graph.now) c.args.side c.args.read run found) c.in-Some.is decides)) c.take.ensures.settled
