@@ -95,7 +95,7 @@ fn add_read_of(
     add_read(alloc, reads, read)
 }
 
-/// Puts all reads of a transaction among those of both who take part in each.
+/// The same of all that it reads.
 fn add_reads(
     alloc: Global,
     reads: &mut Vec<BTreeMap<u64, Vec<Read>>>,
@@ -137,7 +137,7 @@ fn add_base_read(
     Ok(())
 }
 
-/// Puts the reader among those of the base, for each key that it reads from there.
+/// The same of all that it reads.
 fn add_base_reads(
     alloc: Global,
     base: &mut BTreeMap<u64, Vec<TxnId>>,

@@ -70,7 +70,7 @@ fn note_run(
     Ok(())
 }
 
-/// Notes, session by session, those that reach the transaction, but for those that reach the earlier writer.
+/// The same of all sessions.
 fn note_runs(
     graph: &Graph,
     due: &mut Due,
@@ -113,7 +113,7 @@ fn note_key(graph: &Graph, due: &mut Due, runs: &[Run], id: TxnId) -> Result<(),
     note_runs(graph, due, runs, id, earlier)
 }
 
-/// Notes whoever has to be looked at since the transaction is one of the writers of these keys.
+/// The same of keys, one after another.
 fn note_keys(
     index: &Index,
     graph: &Graph,
@@ -154,7 +154,7 @@ fn note_txn(
     note_keys(index, graph, due, id, keys)
 }
 
-/// Notes whoever has to be looked at since these transactions write their keys.
+/// The same of transactions, one after another.
 pub(crate) fn note_txns(
     parts: &Parts,
     index: &Index,
