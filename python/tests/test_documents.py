@@ -47,7 +47,7 @@ ELSEWHERE = {
 # Words of the contracts on which programs and reviewers rely: docs/DEFINITIONS.md has to say what they mean.
 PROMISED = {
     "the headline": "EachReportIsTrue AreTrueReplies Accepted accepted_after TellsTrueOf reported_on IsVerdictWhole"
-    " ExplainsWhole HasPendingWhole History effects",
+    " ExplainsWhole HasPendingWhole History effects IsKept StandsForAccepted",
     "what serve writes": "IsOutput StopsForMemory StopsReading StopsWriting IsAnswered Answers AnswersOpen AnswersBeside"
     " Finishes IsCommand command_of line_of lines asked_by",
     "what cobra_check says": "IsAllRight IsRightSoFar Checks IsRightReply IsUnchecked IsOwedReport Owes IsWrongReply"
@@ -63,7 +63,7 @@ PROMISED = {
     " IsGoneRead depth_of IsJoin",
     "searches": "Scans IsPicked IsPlain IsSpent IsLawful MayAnswer",
     "snapshot isolation": "IsSnapshotOrder KeepsSnapshotIsolation IsSnapshotVerdict SeesLastCommit AnswersIsolated"
-    " OpensIsolated IsAskedFault OfferedFault LegalIsolation isolated_of",
+    " Opens TellsIsolation IsAskedFault OfferedFault LegalIsolation isolated_of",
 }
 
 
