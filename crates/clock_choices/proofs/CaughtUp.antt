@@ -8,13 +8,15 @@ use Rattle.txn.specs.declared.choices.Arc.TheVariants.{Session, Read, Base, Take
 use Rattle.txn.specs.Arcs.{start_of, end_of}
 use Rattle.order_check.specs.declared.remainder.Parts.{Parts}
 use Rattle.order_check.specs.Based.{Remains}
-use Rattle.order_check.specs.Cycles.{IsArc, Sides, sides_after}
+use Rattle.order_check.specs.Cycles.{AreNew, IsArc, Sides, sides_after}
 use Rattle.order_check.specs.Known.{Known, ReadsBase, ReadsKey, WritesKey, by_base, by_read, by_session, by_taken, forces_after, forces_before, through}
+use Rattle.session_clocks.specs.Graphs.{GraphState}
 use Rattle.session_clocks.specs.Reach as reach
 use Rattle.session_clocks.specs.Reach.{IsThere, Reaches}
 use Rattle.clock_choices.specs.declared.steps.Forced.{Forced}
 use Rattle.clock_choices.specs.CatchingUp.{GoesOn}
 use Rattle.clock_choices.specs.Closed.{AreKnown, IsClosed, IsPlain}
+use Rattle.clock_choices.specs.Extending.{Extends, reached_in}
 use Rattle.clock_choices.specs.Forcing.{Forces}
 use Rattle.clock_choices.specs.Growth.{IsNotedFor}
 use Rattle.clock_choices.specs.Held.{IsHeld}
@@ -26,6 +28,7 @@ use Rattle.clock_choices.specs.Pending.{IsClosedBut}
 use Rattle.clock_choices.specs.SaturatedState.{AreNewBehind}
 use Rattle.clock_choices.specs.Steps.{bare, sides_of}
 use Rattle.clock_choices.proofs.Closing.{known_reached, reached_known}
+use Rattle.clock_choices.proofs.Extending.{on_new, on_old}
 use Rattle.clock_choices.proofs.Growing.{known_grows, reads_base_less, reads_less, writes_less}
 use Rattle.clock_choices.proofs.Logged.{forces_known, forces_new, map_both, sides_of_both}
 use Rattle.clock_choices.proofs.NewChoices.{closed_with_new, same_or_apart}
@@ -111,17 +114,21 @@ module _ (parts more : Parts) (gone few received : List ℕ) (arcs : List Arc) (
       let f : get_or few id.session 0 ≡ first = ap (λ (s : ℕ). get_or few s 0) is.0 in
       omega (arith, low, high, f)
 
-  module _ (linked : List Arc) (start noted due : List TxnId) (here : (id : TxnId) → Contains ids id → Contains start id) (brings : Brings more gone received arcs start linked noted) (stay : (id : TxnId) → Contains noted id → Contains due id)
-      (links : All (IsTxnLinked more (Reaches gone received linked) first) ids) (passes : All (IsNotedFor more (Reaches gone received linked) (Contains due)) ids) where
+  module _ (marks : List ℕ) (linked : GraphState) (extends : Extends (record { gone = gone; received = received; arcs = arcs; marks = marks }) linked) (start noted due : List TxnId) (here : (id : TxnId) → Contains ids id → Contains start id)
+      (brings : Brings more (record { gone = gone; received = received; arcs = arcs; marks = marks }) start linked noted) (stay : (id : TxnId) → Contains noted id → Contains due id)
+      (links : All (IsTxnLinked more (reached_in linked) first) ids) (passes : All (IsNotedFor more (reached_in linked) (Contains due)) ids) where
     -- the relation once all that is there from the start is
     abbrev pub R : TxnId → TxnId → Type 0
-    R = Reaches gone received linked
+    R = reached_in linked
+
+    over : IsOver more linked.gone linked.received
+    over = on_new (IsOver more) extends goes.over
 
     lifted : {a b : TxnId} → Reaches gone few arcs a b → R a b
     lifted {a} {b} reached = let growth = brings.growth in growth.reaches a b (reaches_with_nodes gone few received session count goes.nodes arcs reached)
 
     along : (a b : TxnId) → Remains more a → Remains more b → a.session ≡ b.session → a.number < b.number → R a b
-    along a b first second same below = reach.by_session a b (remains_there more gone received goes.over a first) (remains_there more gone received goes.over b second) same below
+    along a b first second same below = reach.by_session a b (remains_there more linked.gone linked.received over a first) (remains_there more linked.gone linked.received over b second) same below
 
     is_due : (id : TxnId) → Contains ids id → Contains due id
     is_due id there = let growth = brings.growth in stay id (growth.stay id (here id there))
@@ -207,40 +214,38 @@ module _ (parts more : Parts) (gone few received : List ℕ) (arcs : List Arc) (
         ]
 
     -- its arcs are known
-    pub linked_known : AreKnown more [] linked
+    pub linked_known : AreKnown more [] linked.arcs
     linked_known = subst (λ (some : List Arc). AreKnown more [] some) (sym brings.is)
         (All-append (λ (arc : Arc). Known more [] (start_of arc) (end_of arc)) arcs brings.added
         (All-weaker (λ (arc : Arc). Known parts [] (start_of arc) (end_of arc)) (λ (arc : Arc). Known more [] (start_of arc) (end_of arc)) (λ arc is. known_grows parts more [] (start_of arc) (end_of arc) goes.are is) arcs (let held = goes.held in held.known))
         (All-weaker (IsArc more []) (λ (arc : Arc). Known more [] (start_of arc) (end_of arc)) (λ arc is. arc_known more arc is) brings.added brings.right))
 
-    linked_logged : IsLogged more gone received linked steps
+    linked_logged : IsLogged more linked.gone linked.received linked.arcs steps
     linked_logged =
         let held = goes.held in
-        subst (λ (some : List Arc). IsLogged more gone received some steps) (sym brings.is)
-        (logged_linked parts more gone few received session count arcs brings.added steps goes.are held.over goes.nodes was_there brings.right held.logged)
+        on_new (λ g r. IsLogged more g r linked.arcs steps) extends (subst (λ (some : List Arc). IsLogged more gone received some steps) (sym brings.is)
+        (logged_linked parts more gone few received session count arcs brings.added steps goes.are held.over goes.nodes was_there brings.right held.logged))
 
     -- what was forced from there is held of more parts, and each step is new
-    module _ (closed_arcs : List Arc) (new : List Forced) (forces : Forces more gone received linked [] closed_arcs new) where
-      over_more : AreKnown more [] closed_arcs
-      over_more = forces_known more gone received goes.over linked [] closed_arcs new linked_known forces
+    module _ (closed : GraphState) (on : Extends linked closed) (new : List Forced) (forces : Forces more linked [] closed new) where
+      are_new : AreNew more (sides_of steps) (map bare new) × IsPlain more (sides_after (sides_of steps) (map bare new)) (Reaches linked.gone linked.received closed.arcs)
+      are_new = forces_new more linked.gone linked.received over (sides_of steps) linked.arcs closed.arcs new plain_more forces
 
-      pub held_more : length gone ≡ length more.remain → IsClosed more (Reaches gone received closed_arcs) → IsHeld more gone received closed_arcs (steps ++ new)
-      held_more sessions closed =
-          let is_new = forces_new more gone received goes.over (sides_of steps) linked closed_arcs new plain_more forces in
-          let sides : sides_of (steps ++ new) ≡ sides_after (sides_of steps) (map bare new) = sides_of_both steps new in
+      pub held_more : length gone ≡ length more.remain → IsClosed more (reached_in closed) → IsHeld more closed.gone closed.received closed.arcs (steps ++ new)
+      held_more sessions settled =
           let nodes = nodes_of in
-          record {
-            sessions = sessions;
-            width = nodes.sessions;
-            over = goes.over;
-            known = over_more;
-            plain = subst (λ (xs : Sides). IsPlain more xs (Reaches gone received closed_arcs)) (sym sides) is_new.1;
-            closed = closed;
-            logged = logged_forces more gone received linked closed_arcs steps new goes.over linked_logged plain_more forces;
+          on_new (λ g r. IsHeld more g r closed.arcs (steps ++ new)) on record {
+            sessions = on_new (λ g r. length g ≡ length more.remain) extends sessions;
+            width = on_new (λ g r. length r ≡ length g) extends nodes.sessions;
+            over = over;
+            known = forces_known more linked.gone linked.received over linked.arcs [] closed.arcs new linked_known forces;
+            plain = subst (λ (xs : Sides). IsPlain more xs (Reaches linked.gone linked.received closed.arcs)) (sym (sides_of_both steps new)) are_new.1;
+            closed = on_old (λ g r. IsClosed more (Reaches g r closed.arcs)) on settled;
+            logged = logged_forces more linked.gone linked.received linked.arcs closed.arcs steps new over linked_logged plain_more forces;
           }
 
       pub logged_more : AreNewBehind more (map bare steps) (map bare (steps ++ new))
-      logged_more = (map bare new, map_both steps new, (forces_new more gone received goes.over (sides_of steps) linked closed_arcs new plain_more forces).0)
+      logged_more = (map bare new, map_both steps new, are_new.0)
 
 -- what is reached is what is known
 pub held_known : (parts : Parts) (gone received : List ℕ) (arcs : List Arc) (steps : List Forced) → IsHeld parts gone received arcs steps → (a b : TxnId) → Reaches gone received arcs a b ↔ Known parts [] a b

@@ -1,5 +1,5 @@
 -- A search among numbers that climb, by halves.
-use Rattle.std.proofs.Common.{◌≡◌, ℕ, ◌+◌, ◌-◌, ◌^◌, ◌<◌, ◌≤◌, List, length, get_or, ap, arith}
+use Rattle.std.proofs.Common.{◌≡◌, ℕ, ◌+◌, ◌-◌, ◌^◌, ◌<◌, ◌≤◌, List, get_or, ap, arith}
 use Rattle.std.proofs.lemmas.Nat.{pow-add}
 use Rattle.clock_choices.specs.Runs.{Climbs, IsBetween}
 use Rattle.clock_choices.proofs.Numbers.{climbs_or}

@@ -10,6 +10,7 @@ pub mod CutBack
 pub mod Cuts
 pub mod Cyclings
 pub mod DueLists
+pub mod Extending
 pub mod FirstOpens
 pub mod FullLogs
 pub mod Growing

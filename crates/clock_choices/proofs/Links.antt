@@ -2,23 +2,24 @@
 use Rattle.std.proofs.Common.{◌≡◌, ◌≢◌, ◌⊎◌, ℕ, ◌+◌, ◌<◌, ◌≤◌, List, [], ◌∷◌, ◌++◌, length, get_or, take, Option, Some, IsSomeAnd, refl, sym, ap, subst, ◌∙◌, inl, inr, arith, append-nil, append_assoc, Contains, All}
 use Rattle.std.proofs.lemmas.Bool.{cases_lt}
 use Rattle.std.proofs.lemmas.List.{get_or_past}
-use Rattle.std.proofs.lemmas.List.Elements.{All-append, All-contains, All-cons, All-more, All-nil, All-weaker, Contains-get_or, Contains-push}
+use Rattle.std.proofs.lemmas.List.Elements.{All-append, All-contains, All-cons, All-more, All-nil, All-weaker, Contains-get_or}
 use Rattle.txn.specs.declared.transactions.TxnId.{TxnId}
 use Rattle.txn.specs.declared.transactions.Txn.{Txn}
 use Rattle.txn.specs.declared.transactions.Source.{Source}
 use Rattle.txn.specs.declared.transactions.Source.TheVariants.{By}
 use Rattle.txn.specs.declared.choices.Arc.{Arc}
 use Rattle.txn.specs.declared.choices.Arc.TheVariants.{Base}
-use Rattle.txn.specs.Arcs.{start_of, end_of}
 use Rattle.txn.specs.History.{writes_key}
 use Rattle.order_check.specs.declared.remainder.Parts.{Parts}
 use Rattle.order_check.specs.Based.{remaining_at}
 use Rattle.order_check.specs.Cycles.{IsArc}
 use Rattle.order_check.specs.Known.{ReadsBase, ReadsKey, WritesKey}
-use Rattle.session_clocks.specs.Reach.{IsThere, Reaches, by_arc}
+use Rattle.session_clocks.specs.Graphs.{GraphState}
+use Rattle.session_clocks.specs.Reach.{IsThere, Reaches}
 use Rattle.clock_choices.specs.declared.indexing.Index.{Index}
 use Rattle.clock_choices.specs.declared.reads.Read as reads
 use Rattle.clock_choices.specs.declared.runs.Run.{Run}
+use Rattle.clock_choices.specs.Extending.{reached_in}
 use Rattle.clock_choices.specs.Forcing.{IsGrowth}
 use Rattle.clock_choices.specs.Index.{AreRunsOf, IsInRuns, IsRunThere, WriterRuns, reads_of, runs_of}
 use Rattle.clock_choices.specs.Indexing.{IsIndex}
@@ -31,27 +32,28 @@ use Rattle.clock_choices.proofs.Indexed.{some_writes}
 use Rattle.clock_choices.proofs.Remaining.{reader_remains, writer_remains}
 use Rattle.clock_choices.proofs.Settled.{same_there, take_all}
 
-module _ (parts : Parts) (gone received : List ℕ) where
-  pub brings_none : (arcs : List Arc) (due : List TxnId) → Brings parts gone received arcs due arcs due
-  brings_none arcs due = record { added = []; is = sym (append-nil arcs); right = All-nil (IsArc parts []); growth = growth_none gone received arcs due }
+module _ (parts : Parts) where
+  pub brings_none : (graph : GraphState) (due : List TxnId) → Brings parts graph due graph due
+  brings_none graph due = record { added = []; is = sym (append-nil graph.arcs); right = All-nil (IsArc parts []); growth = growth_none (reached_in graph) due }
 
-  pub brings_both : (arcs mid more : List Arc) (due between then : List TxnId) → Brings parts gone received arcs due mid between → Brings parts gone received mid between more then → Brings parts gone received arcs due more then
-  brings_both arcs mid more due between then first second = record {
+  pub brings_both : {old mid new : GraphState} {due between then : List TxnId} → Brings parts old due mid between → Brings parts mid between new then → Brings parts old due new then
+  brings_both {old} first second = record {
     added = first.added ++ second.added;
-    is = second.is ∙ ap (λ (some : List Arc). some ++ second.added) first.is ∙ append_assoc arcs first.added second.added;
+    is = second.is ∙ ap (λ (some : List Arc). some ++ second.added) first.is ∙ append_assoc old.arcs first.added second.added;
     right = All-append (IsArc parts []) first.added second.added first.right second.right;
-    growth = growth_both gone received arcs mid more due between then first.growth second.growth;
+    growth = growth_both first.growth second.growth;
   }
 
-  pub brings_one : (arcs more : List Arc) (due then : List TxnId) (arc : Arc) → more ≡ arcs ++ arc ∷ [] → IsArc parts [] arc → IsGrowth gone received arcs due more then → Brings parts gone received arcs due more then
-  brings_one arcs more due then arc is right growth = record { added = arc ∷ []; is = is; right = All-cons (IsArc parts []) arc [] right (All-nil (IsArc parts [])); growth = growth }
+  pub brings_one : {old new : GraphState} {due then : List TxnId} (arc : Arc) → new.arcs ≡ old.arcs ++ arc ∷ [] → IsArc parts [] arc → IsGrowth (reached_in old) due (reached_in new) then → Brings parts old due new then
+  brings_one arc is right growth = record { added = arc ∷ []; is = is; right = All-cons (IsArc parts []) arc [] right (All-nil (IsArc parts [])); growth = growth }
 
   -- what has its arcs keeps them, and one more has its own
-  pub brings_more : {X : Type 0} (P : List Arc → X → Type 0) (xs : List X) (k : ℕ) (d : X) (start mid more : List Arc) (due between then : List TxnId) → k < length xs → ((x : X) → ((a b : TxnId) → Reaches gone received mid a b → Reaches gone received more a b) → P mid x → P more x)
-      → Brings parts gone received start due mid between × All (P mid) (take k xs) → Brings parts gone received mid between more then × P more (get_or xs k d) → Brings parts gone received start due more then × All (P more) (take (k + 1) xs)
-  brings_more P xs k d start mid more due between then within stays first second = (
-    brings_both start mid more due between then first.0 second.0,
-    All-more (P more) xs k d within (All-weaker (P mid) (P more) (λ x is. stays x (let growth = second.0.growth in growth.reaches) is) (take k xs) first.1) second.1,
+  pub brings_more : {X : Type 0} (P : (TxnId → TxnId → Type 0) → X → Type 0) (xs : List X) (k : ℕ) (d : X) {x : X} {start mid more : GraphState} {due between then : List TxnId} → k < length xs → x ≡ get_or xs k d
+      → ((R S : TxnId → TxnId → Type 0) → ((a b : TxnId) → R a b → S a b) → (x : X) → P R x → P S x)
+      → Brings parts start due mid between × All (P (reached_in mid)) (take k xs) → Brings parts mid between more then × P (reached_in more) x → Brings parts start due more then × All (P (reached_in more)) (take (k + 1) xs)
+  brings_more P xs k d {mid = mid} {more = more} within is stays first second = (
+    brings_both first.0 second.0,
+    All-more (P (reached_in more)) xs k d within (All-weaker (P (reached_in mid)) (P (reached_in more)) (λ x is. stays (reached_in mid) (reached_in more) (let growth = second.0.growth in growth.reaches) x is) (take k xs) first.1) (subst (P (reached_in more)) is second.1),
   )
 
 -- all is more than what the first so many say
@@ -86,17 +88,13 @@ module _ (R S : TxnId → TxnId → Type 0) (more : (a b : TxnId) → R a b → 
     writes = λ reader key read written apart. elim (is.writes reader key read written apart) [ inl reached ↦ inl (more reader id reached) | inr two ↦ inr two ];
   }
 
--- by its own arc one comes from its start to its end
-pub by_last : (gone received : List ℕ) (arcs more : List Arc) (arc : Arc) → more ≡ arcs ++ arc ∷ [] → Reaches gone received more (start_of arc) (end_of arc)
-by_last gone received arcs more arc is = by_arc arc (subst (λ (some : List Arc). Contains some arc) (sym is) (Contains-push arcs arc))
-
 -- the first other writer in a run stands for those behind it
-module _ (gone received : List ℕ) (arcs : List Arc) (reader : TxnId) (run : Run) (there : IsRunThere gone received run) where
+module _ (gone received : List ℕ) (reader : TxnId) (run : Run) (there : IsRunThere gone received run) where
   third_there : (other : TxnId) → IsThird run.session run.numbers.items reader reader other → IsThere gone received other
   third_there other third = same_there gone received run.session other (sym third.same) (there.there other.number third.listed)
 
-  pub before_run : (first : TxnId) → IsFirstThird run.session run.numbers.items reader reader 0 first → Reaches gone received arcs reader first → IsBeforeRun (Reaches gone received arcs) reader run
-  before_run first is_first reached other third =
+  pub before_run : (arcs : List Arc) (first : TxnId) → IsFirstThird run.session run.numbers.items reader reader 0 first → Reaches gone received arcs reader first → IsBeforeRun (Reaches gone received arcs) reader run
+  before_run arcs first is_first reached other third =
       then_along gone received arcs reader first other (third_there first is_first.third) (third_there other third) (is_first.third.same ∙ sym third.same) (is_first.each other third (omega arith)) reached
 
   pub first_third_there : (first : TxnId) → IsFirstThird run.session run.numbers.items reader reader 0 first → IsThere gone received first
@@ -188,19 +186,20 @@ module _ (parts : Parts) (gone received : List ℕ) (index : Index) (is : IsInde
       nodes.there read.reader (reader_remains parts read.reader read.key (By read.writer) ((is.reads id).each k d within))
 
 -- the reads, the reads of the base and the writes of a transaction are linked, one after another
-pub txn_brings : (parts : Parts) (gone received : List ℕ) (index : Index) (first : ℕ) (id : TxnId) (txn : Txn) (arcs linked based more : List Arc) (due one two then : List TxnId) → IsIndex parts index → remaining_at parts id ≡ Some txn
-    → Brings parts gone received arcs due linked one × All (IsLinked parts (Reaches gone received linked)) (reads_of index.reads.items id)
-    → Brings parts gone received linked one based two × All (IsBaseLinked parts (Reaches gone received based) index.writers id) txn.reads
-    → Brings parts gone received based two more then × All (AreWritersLinked (Reaches gone received more) index id.session first) txn.writes
-    → Brings parts gone received arcs due more then × IsTxnLinked parts (Reaches gone received more) first id
-txn_brings parts gone received index first id txn arcs linked based more due one two then is found by_reads by_base by_writes =
+pub txn_brings : (parts : Parts) (index : Index) (first : ℕ) (id : TxnId) (txn : Txn) {old linked based new : GraphState} {due one two then : List TxnId} → IsIndex parts index → remaining_at parts id ≡ Some txn
+    → Brings parts old due linked one × All (IsLinked parts (reached_in linked)) (reads_of index.reads.items id)
+    → Brings parts linked one based two × All (IsBaseLinked parts (reached_in based) index.writers id) txn.reads
+    → Brings parts based two new then × All (AreWritersLinked (reached_in new) index id.session first) txn.writes
+    → Brings parts old due new then × IsTxnLinked parts (reached_in new) first id
+txn_brings parts index first id txn {linked = linked} {based = based} {new = new} is found by_reads by_base by_writes =
     let on = by_writes.0.growth in
-    let both = brings_both parts gone received linked based more one two then by_base.0 by_writes.0 in
-    let all_on = both.growth in (
-      brings_both parts gone received arcs linked more due one then by_reads.0 both,
-      txn_linked parts (Reaches gone received more) index is first id txn found
-          (All-weaker (IsLinked parts (Reaches gone received linked)) (IsLinked parts (Reaches gone received more)) (λ read link. linked_stays (Reaches gone received linked) (Reaches gone received more) all_on.reaches parts read link) (reads_of index.reads.items id) by_reads.1)
-          (All-weaker (IsBaseLinked parts (Reaches gone received based) index.writers id) (IsBaseLinked parts (Reaches gone received more) index.writers id) (λ read link. base_linked_stays (Reaches gone received based) (Reaches gone received more) on.reaches parts index.writers id read link) txn.reads by_base.1)
+    let both = brings_both parts by_base.0 by_writes.0 in
+    let all_on = both.growth in
+    let R = reached_in new in (
+      brings_both parts by_reads.0 both,
+      txn_linked parts R index is first id txn found
+          (All-weaker (IsLinked parts (reached_in linked)) (IsLinked parts R) (λ read link. linked_stays (reached_in linked) R all_on.reaches parts read link) (reads_of index.reads.items id) by_reads.1)
+          (All-weaker (IsBaseLinked parts (reached_in based) index.writers id) (IsBaseLinked parts R index.writers id) (λ read link. base_linked_stays (reached_in based) R on.reaches parts index.writers id read link) txn.reads by_base.1)
           by_writes.1,
     )
 

@@ -15,7 +15,7 @@ use Rattle.order_check.specs.Known.{IsChoice, Known, forces_after, forces_before
 use Rattle.session_clocks.specs.Reach.{Reaches, by_session, by_arc, through}
 use Rattle.clock_choices.specs.declared.steps.Forced.{Forced}
 use Rattle.clock_choices.specs.Closed.{AreKnown, IsPlain}
-use Rattle.clock_choices.specs.Forcing.{Forces, forced, unforced}
+use Rattle.clock_choices.specs.Forcing.{ForcesOver, forced, unforced}
 use Rattle.clock_choices.specs.Over.{IsOver}
 use Rattle.clock_choices.specs.Steps.{bare, conclusion, conclusion_of, premise_of, sides_behind, sides_of, taken_arc}
 use Rattle.clock_choices.proofs.Closing.{reached_known}
@@ -80,18 +80,18 @@ module _ (parts : Parts) (gone received : List ℕ) (over : IsOver parts gone re
     links_reached a b (arc, path, begins, right, rest) = path_reached a (end_of arc) path b (subst (λ (id : TxnId). Reaches gone received arcs id (end_of arc)) begins (arc_reached arc right)) rest
 
   -- what is forced from known arcs is known
-  pub forces_known_from : (taken : Sides) (arcs : List Arc) (steps : List Forced) (more : List Arc) (all : List Forced) → AreKnown parts taken arcs → Forces parts gone received arcs steps more all → AreKnown parts taken more
+  pub forces_known_from : (taken : Sides) (arcs : List Arc) (steps : List Forced) (more : List Arc) (all : List Forced) → AreKnown parts taken arcs → ForcesOver parts gone received arcs steps more all → AreKnown parts taken more
   forces_known_from taken arcs steps more all known unforced = known
   forces_known_from taken arcs steps more all known (forced {between = between} {some = some} step before is) =
       let so_far = forces_known_from taken arcs steps between some known before in
       let ready = reached_known parts taken gone received between over so_far is.ready in
       All-push (λ (arc : Arc). Known parts taken (start_of arc) (end_of arc)) between (taken_arc step) so_far (forced_known parts taken step.choice step.side is.choice_of ready)
 
-  pub forces_known : (arcs : List Arc) (steps : List Forced) (more : List Arc) (all : List Forced) → AreKnown parts [] arcs → Forces parts gone received arcs steps more all → AreKnown parts [] more
+  pub forces_known : (arcs : List Arc) (steps : List Forced) (more : List Arc) (all : List Forced) → AreKnown parts [] arcs → ForcesOver parts gone received arcs steps more all → AreKnown parts [] more
   forces_known arcs steps more all known forces = forces_known_from [] arcs steps more all known forces
 
   -- no less is reached
-  pub forces_reach : (arcs : List Arc) (steps : List Forced) (more : List Arc) (all : List Forced) {a b : TxnId} → Forces parts gone received arcs steps more all → Reaches gone received arcs a b → Reaches gone received more a b
+  pub forces_reach : (arcs : List Arc) (steps : List Forced) (more : List Arc) (all : List Forced) {a b : TxnId} → ForcesOver parts gone received arcs steps more all → Reaches gone received arcs a b → Reaches gone received more a b
   forces_reach arcs steps more all unforced reached = reached
   forces_reach arcs steps more all (forced {between = between} {some = some} step before is) reached = reaches_more gone received between (taken_arc step) (forces_reach arcs steps between some before reached)
 
@@ -104,7 +104,7 @@ module _ (parts : Parts) (gone received : List ℕ) (over : IsOver parts gone re
   abbrev pub AreNewOver : Sides → List Arc → List Forced → Type 0
   AreNewOver taken more steps = AreNew parts taken (map bare steps) × IsPlain parts (sides_after taken (map bare steps)) (Reaches gone received more)
 
-  pub forces_new : (taken : Sides) (arcs more : List Arc) (steps : List Forced) → IsPlain parts taken (Reaches gone received arcs) → Forces parts gone received arcs [] more steps → AreNewOver taken more steps
+  pub forces_new : (taken : Sides) (arcs more : List Arc) (steps : List Forced) → IsPlain parts taken (Reaches gone received arcs) → ForcesOver parts gone received arcs [] more steps → AreNewOver taken more steps
   forces_new taken arcs more steps plain unforced = (tt, plain)
   forces_new taken arcs more steps plain (forced {between = between} {some = some} step before is) =
       let so_far = forces_new taken arcs between some plain before in

@@ -11,7 +11,7 @@ use Rattle.order_check.specs.Known.{Known, by_base, by_read, by_session, by_take
 use Rattle.session_clocks.specs.Reach.{Reaches, by_arc}
 use Rattle.clock_choices.specs.declared.steps.Forced.{Forced}
 use Rattle.clock_choices.specs.Closed.{AreKnown, IsClosed, IsPlain}
-use Rattle.clock_choices.specs.Forcing.{Forces, IsGrowth}
+use Rattle.clock_choices.specs.Forcing.{ForcesOver, IsGrowth}
 use Rattle.clock_choices.specs.Held.{IsHeldFrom}
 use Rattle.clock_choices.specs.Logging.{HasRight, IsLoggedFrom}
 use Rattle.clock_choices.specs.Pending.{IsClosedBut}
@@ -42,8 +42,8 @@ module _ (parts : Parts) (taken start : Sides) (gone received : List ℕ) (arcs 
   sides = side ∷ sides_behind start log
 
   -- what was settled is, but for those that the side's arc tells
-  pub closed_but_told : (told : List TxnId) → IsGrowth gone received arcs [] more told → IsClosedBut parts (Reaches gone received more) (λ id. Contains told id)
-  closed_but_told told growth choice is = choice_stays gone received arcs more [] told growth choice (closed_is_but parts (Reaches gone received arcs) (λ id. Contains [] id) held.closed choice is)
+  pub closed_but_told : {S : TxnId → TxnId → Type 0} (told : List TxnId) → IsGrowth (Reaches gone received arcs) [] S told → IsClosedBut parts S (λ id. Contains told id)
+  closed_but_told told growth choice is = choice_stays growth choice (closed_is_but parts (Reaches gone received arcs) (λ id. Contains [] id) held.closed choice is)
 
   known_side : AreKnown parts (side ∷ taken) more
   known_side = All-push (λ (one : Arc). Known parts (side ∷ taken) (start_of one) (end_of one)) arcs arc
@@ -71,7 +71,7 @@ module _ (parts : Parts) (taken start : Sides) (gone received : List ℕ) (arcs 
       }
 
   -- the relation holds what was forced from there, and each step is new
-  module _ (closed : List Arc) (steps : List Forced) (forces : Forces parts gone received more [] closed steps) where
+  module _ (closed : List Arc) (steps : List Forced) (forces : ForcesOver parts gone received more [] closed steps) where
     pub held_with : IsClosed parts (Reaches gone received closed) → IsHeldFrom parts (side ∷ taken) sides gone received closed steps
     held_with settled = record {
       sessions = held.sessions;

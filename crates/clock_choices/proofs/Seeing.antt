@@ -18,8 +18,9 @@ use Rattle.clock_choices.specs.declared.indexing.Index.{Index}
 use Rattle.clock_choices.specs.declared.steps.Forced.{Forced}
 use Rattle.clock_choices.specs.Acyclic.{HasNoCycle}
 use Rattle.clock_choices.specs.BranchState.{assumed}
+use Rattle.clock_choices.specs.Extending.{reached_in}
 use Rattle.clock_choices.specs.Indexing.{IsIndex}
-use Rattle.clock_choices.specs.Opens.{IsAsked, IsFirstIn, IsOpenIn, reached_in}
+use Rattle.clock_choices.specs.Opens.{IsAsked, IsFirstIn, IsOpenIn}
 use Rattle.clock_choices.specs.Stacks.{AreStacked, IsRelationAt, IsSeen, levels_of, seen_of_last, stack_onto}
 use Rattle.clock_choices.proofs.FirstOpens.{first_known, none_known, none_passed, passed_on}
 use Rattle.clock_choices.proofs.NewCycles.{acyclic_none}

@@ -4,32 +4,22 @@ use Rattle.std.proofs.lemmas.List.{take_more}
 use Rattle.std.proofs.lemmas.List.Elements.{All-contains, Contains-append_left, Contains-get_or, Contains-push, Contains-push_cases}
 use Rattle.std.specs.BTreeMap.{BTreeMap}
 use Rattle.txn.specs.declared.transactions.TxnId.{TxnId}
-use Rattle.txn.specs.declared.choices.Arc.{Arc}
 use Rattle.txn.specs.declared.choices.Choice.{Choice}
 use Rattle.order_check.specs.declared.remainder.Parts.{Parts}
 use Rattle.order_check.specs.Known.{IsChoice}
-use Rattle.session_clocks.specs.Reach.{IsThere, Reaches}
+use Rattle.session_clocks.specs.Reach.{IsThere}
 use Rattle.clock_choices.specs.declared.reads.Read.{Read}
 use Rattle.clock_choices.specs.declared.runs.Run.{Run}
 use Rattle.clock_choices.specs.Closed.{IsClosed}
 use Rattle.clock_choices.specs.Due.{AreNoted}
-use Rattle.clock_choices.specs.Forcing.{IsGrowth, AreSettled, AreRunsSettled, AreRunsChoices, IsRunOver, choice_of}
+use Rattle.clock_choices.specs.Forcing.{AreRunChoices, IsGrowth, IsOther, IsRunSettled, choice_of}
 use Rattle.clock_choices.specs.Index.{AreReadsOf, AreRunsOf, IsInRuns, IsRead, IsRunThere, ReadLists, reads_at, reads_in}
 use Rattle.clock_choices.specs.Pending.{IsClosedBut, IsDue, IsSettledBut}
-use Rattle.clock_choices.specs.Runs.{IsThird}
 use Rattle.clock_choices.specs.Stages.{IsLeftTo, IsReadSettled, IsTurnSettled, IsTxnSettled}
 
 -- a session and a number make a transaction
 pub same_there : (gone received : List ℕ) (session : ℕ) (id : TxnId) → session ≡ id.session → IsThere gone received (record { session = session; number = id.number }) → IsThere gone received id
 same_there gone received session id same there = subst (λ (s : ℕ). IsThere gone received (record { session = s; number = id.number })) same there
-
--- what a run has may be looked at
-pub run_over : (gone received : List ℕ) (read : Read) (run : Run) → IsRunThere gone received run → IsRunOver gone received read run
-run_over gone received read run is = record {
-  session = is.session;
-  climbs = is.climbs;
-  there = λ other third. same_there gone received run.session other (sym third.same) (is.there other.number third.listed);
-}
 
 -- a writer that is in a run is there
 pub in_runs_there : (gone received : List ℕ) (runs : List Run) (id : TxnId) → All (IsRunThere gone received) runs → IsInRuns runs id → IsThere gone received id
@@ -39,7 +29,7 @@ in_runs_there gone received runs id are found =
 
 module _ (parts : Parts) (read : Read) (runs : List Run) (are : AreRunsOf parts read.key runs) where
   -- each other writer in a run makes a choice of a read from a writer of its key
-  pub runs_choices : IsRead parts read → IsInRuns runs read.writer → AreRunsChoices parts read runs
+  pub runs_choices : IsRead parts read → IsInRuns runs read.writer → All (AreRunChoices parts read) runs
   runs_choices is written k d within other third = record {
     reads = is;
     written = are.each read.writer written;
@@ -48,7 +38,7 @@ module _ (parts : Parts) (read : Read) (runs : List Run) (are : AreRunsOf parts 
     not_reader = third.not_reader;
   }
 
-  third_of : (other : TxnId) → IsChoice parts (choice_of read other) → (found : IsInRuns runs other) → IsThird found.0.session found.0.numbers.items read.reader read.writer other
+  third_of : (other : TxnId) → IsChoice parts (choice_of read other) → (found : IsInRuns runs other) → IsOther read found.0 other
   third_of other is found = record {
     same = sym found.2;
     listed = found.3;
@@ -56,67 +46,65 @@ module _ (parts : Parts) (read : Read) (runs : List Run) (are : AreRunsOf parts 
     not_writer = is.not_writer;
   }
 
-  module _ (gone received : List ℕ) (arcs : List Arc) (told due then : List TxnId) (noted : AreNoted due then told) where
-    pub read_settled : AreRunsSettled gone received arcs told read runs → IsReadSettled parts gone received arcs then read
-    read_settled settled other is =
-        let found = are.all other is.other in
-        let of = All-contains (λ (run : Run). AreSettled gone received arcs told read run.session run.numbers.items) runs found.0 settled found.1 in
-        let third = third_of other is found in
-        record {
-          before = λ reached. elim (of.before other third reached) [ inl there ↦ inl there | inr is_told ↦ inr (inl (noted.here read.reader is_told)) ];
-          behind = λ reached. elim (of.behind other third reached) [ inl there ↦ inl there | inr is_told ↦ inr (inr (noted.here read.writer is_told)) ];
-        }
+  pub read_settled : {R : TxnId → TxnId → Type 0} (told due then : List TxnId) → AreNoted due then told → All (IsRunSettled R told read) runs → IsReadSettled parts R then read
+  read_settled {R} told due then noted settled other is =
+      let found = are.all other is.other in
+      let of = All-contains (IsRunSettled R told read) runs found.0 settled found.1 in
+      let third = third_of other is found in
+      record {
+        before = λ reached. elim (of.before other third reached) [ inl there ↦ inl there | inr is_told ↦ inr (inl (noted.here read.reader is_told)) ];
+        behind = λ reached. elim (of.behind other third reached) [ inl there ↦ inl there | inr is_told ↦ inr (inr (noted.here read.writer is_told)) ];
+      }
 
 -- a read from one that doesn't write its key has no choice
-pub unwritten_settled : (parts : Parts) (read : Read) (runs : List Run) (gone received : List ℕ) (arcs : List Arc) (due : List TxnId) → AreRunsOf parts read.key runs → ¬ IsInRuns runs read.writer → IsReadSettled parts gone received arcs due read
-unwritten_settled parts read runs gone received arcs due are none other is = absurd (none (are.all read.writer is.written))
+pub unwritten_settled : (parts : Parts) (read : Read) (runs : List Run) {R : TxnId → TxnId → Type 0} (due : List TxnId) → AreRunsOf parts read.key runs → ¬ IsInRuns runs read.writer → IsReadSettled parts R due read
+unwritten_settled parts read runs due are none other is = absurd (none (are.all read.writer is.written))
 
-module _ (gone received : List ℕ) (arcs more : List Arc) where
-  -- whoever is told is noted
-  pub growth_noted : (told due then : List TxnId) → IsGrowth gone received arcs [] more told → AreNoted due then told → IsGrowth gone received arcs due more then
-  growth_noted told due then growth noted = record {
-    reaches = growth.reaches;
-    stay = noted.stay;
-    all = λ a b is. elim (growth.all a b is) [ inl was ↦ inl was | inr both ↦ inr (noted.here a both.0, noted.here b both.1) ];
-    only = λ id there. elim (noted.only id there) [
-      | inl was ↦ inl was
-      | inr is_told ↦ elim (growth.only id is_told) [ inl none ↦ absurd (omega (arith, none.1)) | inr grown ↦ inr grown ]
+-- whoever is told is noted
+pub growth_noted : {R S : TxnId → TxnId → Type 0} {told due then : List TxnId} → IsGrowth R [] S told → AreNoted due then told → IsGrowth R due S then
+growth_noted growth noted = record {
+  reaches = growth.reaches;
+  stay = noted.stay;
+  all = λ a b is. elim (growth.all a b is) [ inl was ↦ inl was | inr both ↦ inr (noted.here a both.0, noted.here b both.1) ];
+  only = λ id there. elim (noted.only id there) [
+    | inl was ↦ inl was
+    | inr is_told ↦ elim (growth.only id is_told) [ inl none ↦ absurd (omega (arith, none.1)) | inr grown ↦ inr grown ]
+  ];
+}
+
+module _ {R S : TxnId → TxnId → Type 0} {due then : List TxnId} (growth : IsGrowth R due S then) where
+  due_stays : (choice : Choice) → IsDue (λ id. Contains due id) choice → IsDue (λ id. Contains then id) choice
+  due_stays choice (inl there) = inl (growth.stay choice.reader there)
+  due_stays choice (inr there) = inr (growth.stay choice.writer there)
+
+  -- what is settled stays so as the relation grows
+  pub choice_stays : (choice : Choice) → IsSettledBut R (λ id. Contains due id) choice → IsSettledBut S (λ id. Contains then id) choice
+  choice_stays choice settled = record {
+    before = λ is. elim (growth.all choice.other choice.reader is) [
+      | inr both ↦ inr (inl both.1)
+      | inl was ↦ elim (settled.before was) [ inl there ↦ inl (growth.reaches choice.other choice.writer there) | inr is_due ↦ inr (due_stays choice is_due) ]
+    ];
+    behind = λ is. elim (growth.all choice.writer choice.other is) [
+      | inr both ↦ inr (inr both.0)
+      | inl was ↦ elim (settled.behind was) [ inl there ↦ inl (growth.reaches choice.reader choice.other there) | inr is_due ↦ inr (due_stays choice is_due) ]
     ];
   }
 
-  module _ (due then : List TxnId) (growth : IsGrowth gone received arcs due more then) where
-    due_stays : (choice : Choice) → IsDue (λ id. Contains due id) choice → IsDue (λ id. Contains then id) choice
-    due_stays choice (inl there) = inl (growth.stay choice.reader there)
-    due_stays choice (inr there) = inr (growth.stay choice.writer there)
+  pub read_stays : (parts : Parts) (read : Read) → IsReadSettled parts R due read → IsReadSettled parts S then read
+  read_stays parts read settled other is = choice_stays (choice_of read other) (settled other is)
 
-    -- what is settled stays so as the relation grows
-    pub choice_stays : (choice : Choice) → IsSettledBut (Reaches gone received arcs) (λ id. Contains due id) choice → IsSettledBut (Reaches gone received more) (λ id. Contains then id) choice
-    choice_stays choice settled = record {
-      before = λ is. elim (growth.all choice.other choice.reader is) [
-        | inr both ↦ inr (inl both.1)
-        | inl was ↦ elim (settled.before was) [ inl there ↦ inl (growth.reaches choice.other choice.writer there) | inr is_due ↦ inr (due_stays choice is_due) ]
-      ];
-      behind = λ is. elim (growth.all choice.writer choice.other is) [
-        | inr both ↦ inr (inr both.0)
-        | inl was ↦ elim (settled.behind was) [ inl there ↦ inl (growth.reaches choice.reader choice.other there) | inr is_due ↦ inr (due_stays choice is_due) ]
-      ];
-    }
-
-    pub read_stays : (parts : Parts) (read : Read) → IsReadSettled parts gone received arcs due read → IsReadSettled parts gone received more then read
-    read_stays parts read settled other is = choice_stays (choice_of read other) (settled other is)
-
-    pub turn_stays : (parts : Parts) (batch : List TxnId) (id : TxnId) → IsTurnSettled parts gone received arcs due batch id → IsTurnSettled parts gone received more then batch id
-    turn_stays parts batch id done read is takes = elim (done read is takes) [ inl settled ↦ inl (read_stays parts read settled) | inr left ↦ inr left ]
+  pub turn_stays : (parts : Parts) (batch : List TxnId) (id : TxnId) → IsTurnSettled parts R due batch id → IsTurnSettled parts S then batch id
+  turn_stays parts batch id done read is takes = elim (done read is takes) [ inl settled ↦ inl (read_stays parts read settled) | inr left ↦ inr left ]
 
 -- some of the reads
 pub among_reads : (P : Read → Type 0) (reads turn : List Read) → ((read : Read) → Contains turn read → Contains reads read) → All P reads → All P turn
 among_reads P reads turn each all k d within = All-contains P reads (get_or turn k d) all (each (get_or turn k d) (Contains-get_or turn k d within))
 
 -- in its turn its reads are settled, or left to their readers' turns
-pub turn_settled : (parts : Parts) (gone received : List ℕ) (arcs : List Arc) (due batch : List TxnId) (id : TxnId) (reads turn : List Read) → AreReadsOf parts id reads
-    → ((read : Read) → Contains reads read → Contains turn read ⊎ IsLeftTo batch id read) → All (IsReadSettled parts gone received arcs due) turn → IsTurnSettled parts gone received arcs due batch id
-turn_settled parts gone received arcs due batch id reads turn are all settled read is takes = elim (all read (are.all read is takes)) [
-  | inl there ↦ inl (All-contains (IsReadSettled parts gone received arcs due) turn read settled there)
+pub turn_settled : (parts : Parts) (R : TxnId → TxnId → Type 0) (due batch : List TxnId) (id : TxnId) (reads turn : List Read) → AreReadsOf parts id reads
+    → ((read : Read) → Contains reads read → Contains turn read ⊎ IsLeftTo batch id read) → All (IsReadSettled parts R due) turn → IsTurnSettled parts R due batch id
+turn_settled parts R due batch id reads turn are all settled read is takes = elim (all read (are.all read is takes)) [
+  | inl there ↦ inl (All-contains (IsReadSettled parts R due) turn read settled there)
   | inr left ↦ inr left
 ]
 
@@ -145,21 +133,21 @@ turn_more batch id reads old new k d within each all (inr both) =
     )
 
 -- once each has had its turn, all are settled
-pub batch_settled : (parts : Parts) (gone received : List ℕ) (arcs : List Arc) (due batch : List TxnId) → All (IsTurnSettled parts gone received arcs due batch) batch → All (IsTxnSettled parts gone received arcs due) batch
-batch_settled parts gone received arcs due batch turns k d within choice is takes =
+pub batch_settled : (parts : Parts) (R : TxnId → TxnId → Type 0) (due batch : List TxnId) → All (IsTurnSettled parts R due batch) batch → All (IsTxnSettled parts R due) batch
+batch_settled parts R due batch turns k d within choice is takes =
     let read : Read = record { reader = choice.reader; key = choice.key; writer = choice.writer } in
     elim (turns k d within read is.reads takes) [
       | inl settled ↦ settled choice.other is
-      | inr left ↦ elim (All-contains (IsTurnSettled parts gone received arcs due batch) batch choice.reader turns left.0 read is.reads (inl refl)) [
+      | inr left ↦ elim (All-contains (IsTurnSettled parts R due batch) batch choice.reader turns left.0 read is.reads (inl refl)) [
         | inl settled ↦ settled choice.other is
         | inr again ↦ absurd (again.1 refl)
       ]
     ]
 
 -- once all that were due are settled, those are due that this told
-pub closed_but : (parts : Parts) (gone received : List ℕ) (arcs more : List Arc) (were then : List TxnId) → IsGrowth gone received arcs [] more then → IsClosedBut parts (Reaches gone received arcs) (λ id. Contains were id)
-    → ((id : TxnId) → Contains were id → IsTxnSettled parts gone received more then id) → IsClosedBut parts (Reaches gone received more) (λ id. Contains then id)
-closed_but parts gone received arcs more were then growth closed settled choice is = record {
+pub closed_but : (parts : Parts) {R S : TxnId → TxnId → Type 0} (were then : List TxnId) → IsGrowth R [] S then → IsClosedBut parts R (λ id. Contains were id)
+    → ((id : TxnId) → Contains were id → IsTxnSettled parts S then id) → IsClosedBut parts S (λ id. Contains then id)
+closed_but parts {R} {S} were then growth closed settled choice is = record {
   before = λ reached. elim (growth.all choice.other choice.reader reached) [
     | inr both ↦ inr (inl both.1)
     | inl was ↦ elim ((closed choice is).before was) [
@@ -176,7 +164,7 @@ closed_but parts gone received arcs more were then growth closed settled choice 
   ];
 }
   where
-    settled_of : IsDue (λ id. Contains were id) choice → IsSettledBut (Reaches gone received more) (λ id. Contains then id) choice
+    settled_of : IsDue (λ id. Contains were id) choice → IsSettledBut S (λ id. Contains then id) choice
     settled_of (inl there) = settled choice.reader there choice is (inl refl)
     settled_of (inr there) = settled choice.writer there choice is (inr refl)
 

@@ -19,7 +19,7 @@ use Rattle.order_check.specs.Known.{IsChoice}
 use Rattle.session_clocks.specs.Reach.{Reaches}
 use Rattle.clock_choices.specs.declared.steps.Forced.{Forced}
 use Rattle.clock_choices.specs.Closed.{IsPlain}
-use Rattle.clock_choices.specs.Forcing.{Forces, IsForcedOver, forced, unforced}
+use Rattle.clock_choices.specs.Forcing.{ForcesOver, IsForcedOver, forced, unforced}
 use Rattle.clock_choices.specs.Growth.{AreMore}
 use Rattle.clock_choices.specs.Logging.{AreRight, HasRight, IsLogged, IsLoggedFrom, IsStepAfter, IsStepFrom}
 use Rattle.clock_choices.specs.Nodes.{HaveMore, IsArcThere}
@@ -139,7 +139,7 @@ logged_push parts start gone received arcs steps step logged plain is = record {
         last_at (y ∷ xs) x (suc i) d end = last_at xs x i d (omega arith)
 
 -- what is forced is logged
-pub logged_forces_from : (parts : Parts) (start : Sides) (gone received : List ℕ) (arcs closed : List Arc) (steps new : List Forced) → IsOver parts gone received → IsLoggedFrom parts start gone received arcs steps → IsPlain parts (sides_behind start steps) (Reaches gone received arcs) → Forces parts gone received arcs [] closed new
+pub logged_forces_from : (parts : Parts) (start : Sides) (gone received : List ℕ) (arcs closed : List Arc) (steps new : List Forced) → IsOver parts gone received → IsLoggedFrom parts start gone received arcs steps → IsPlain parts (sides_behind start steps) (Reaches gone received arcs) → ForcesOver parts gone received arcs [] closed new
     → IsLoggedFrom parts start gone received closed (steps ++ new)
 logged_forces_from parts start gone received arcs closed steps new over logged plain unforced = subst (λ (some : List Forced). IsLoggedFrom parts start gone received arcs some) (sym (append-nil steps)) logged
 logged_forces_from parts start gone received arcs closed steps new over logged plain (forced {between = between} {some = some} step before is) =
@@ -149,6 +149,6 @@ logged_forces_from parts start gone received arcs closed steps new over logged p
     subst (λ (all : List Forced). IsLoggedFrom parts start gone received (between ++ taken_arc step ∷ []) all) (append_assoc steps some (step ∷ []))
     (logged_push parts start gone received between (steps ++ some) step so_far (subst (λ (taken : Sides). IsPlain parts taken (Reaches gone received between)) (sym sides) plain_on) is)
 
-pub logged_forces : (parts : Parts) (gone received : List ℕ) (arcs closed : List Arc) (steps new : List Forced) → IsOver parts gone received → IsLogged parts gone received arcs steps → IsPlain parts (sides_of steps) (Reaches gone received arcs) → Forces parts gone received arcs [] closed new
+pub logged_forces : (parts : Parts) (gone received : List ℕ) (arcs closed : List Arc) (steps new : List Forced) → IsOver parts gone received → IsLogged parts gone received arcs steps → IsPlain parts (sides_of steps) (Reaches gone received arcs) → ForcesOver parts gone received arcs [] closed new
     → IsLogged parts gone received closed (steps ++ new)
 logged_forces parts gone received arcs closed steps new over logged plain forces = logged_forces_from parts [] gone received arcs closed steps new over logged plain forces

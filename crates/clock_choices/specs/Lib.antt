@@ -8,6 +8,7 @@ pub mod Counted
 pub mod CountedChoices
 pub mod Cycling
 pub mod Due
+pub mod Extending
 pub mod Forcing
 pub mod Growth
 pub mod Held

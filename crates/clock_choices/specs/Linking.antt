@@ -8,21 +8,23 @@ use Rattle.order_check.specs.declared.remainder.Parts.{Parts}
 use Rattle.order_check.specs.Cycles.{IsArc}
 use Rattle.order_check.specs.Based.{Remains}
 use Rattle.order_check.specs.Known.{IsBaseSource, ReadsBase, ReadsKey, WritesKey}
+use Rattle.session_clocks.specs.Graphs.{GraphState}
 use Rattle.session_clocks.specs.Reach.{IsThere}
 use Rattle.clock_choices.specs.declared.indexing.Index.{Index}
 use Rattle.clock_choices.specs.declared.reads.Read.{Read}
 use Rattle.clock_choices.specs.declared.runs.Run.{Run}
+use Rattle.clock_choices.specs.Extending.{reached_in}
 use Rattle.clock_choices.specs.Forcing.{IsGrowth}
 use Rattle.clock_choices.specs.Index.{WriterRuns, runs_of}
 use Rattle.clock_choices.specs.Lists.{list_at}
 use Rattle.clock_choices.specs.Runs.{IsThird}
 
 -- right arcs are added, and whoever reaches more by them, or is reached by more, is due
-pub record Brings (parts : Parts) (gone received : List ℕ) (old : List Arc) (due : List TxnId) (more : List Arc) (then : List TxnId) : Type 0 where
+pub record Brings (parts : Parts) (old : GraphState) (due : List TxnId) (new : GraphState) (then : List TxnId) : Type 0 where
   pub added : List Arc
-  pub is : more ≡ old ++ added
+  pub is : new.arcs ≡ old.arcs ++ added
   pub right : All (IsArc parts []) added
-  pub growth : IsGrowth gone received old due more then
+  pub growth : IsGrowth (reached_in old) due (reached_in new) then
 
 -- a read from a writer of its key has its arc
 abbrev pub IsLinked : Parts → (TxnId → TxnId → Type 0) → Read → Type 0

@@ -10,20 +10,16 @@ use Rattle.order_check.specs.declared.remainder.Parts.{Parts}
 use Rattle.order_check.specs.Good.{IsGood}
 use Rattle.order_check.specs.Known.{IsChoice, ReadsKey, WritesKey}
 use Rattle.session_clocks.specs.Graphs.{GraphState}
-use Rattle.session_clocks.specs.Reach.{Reaches}
 use Rattle.clock_choices.specs.declared.indexing.Index.{Index}
 use Rattle.clock_choices.specs.declared.reads.Read.{Read}
 use Rattle.clock_choices.specs.declared.runs.Run.{Run}
 use Rattle.clock_choices.specs.Adds.{Among}
+use Rattle.clock_choices.specs.Extending.{reached_in}
 use Rattle.clock_choices.specs.Forcing.{choice_of}
 use Rattle.clock_choices.specs.Indexing.{IsIndex}
 use Rattle.clock_choices.specs.Linking.{AreNodesOf}
 use Rattle.clock_choices.specs.Runs.{IsThird}
 use Rattle.clock_choices.specs.Spans.{IsUndecided}
-
--- what reaches what in a graph
-abbrev pub reached_in : GraphState → TxnId → TxnId → Type 0
-reached_in graph = Reaches graph.gone graph.received graph.arcs
 
 -- the read of a choice
 abbrev pub read_of : Choice → Read

@@ -15,9 +15,10 @@ use Rattle.clock_choices.specs.declared.indexing.Index.{Index}
 use Rattle.clock_choices.specs.declared.steps.Forced.{Forced}
 use Rattle.clock_choices.specs.Acyclic.{AreAcyclic}
 use Rattle.clock_choices.specs.BranchState.{Level, all_taken, arc_of, assumed}
+use Rattle.clock_choices.specs.Extending.{reached_in}
 use Rattle.clock_choices.specs.Held.{IsHeldFrom}
 use Rattle.clock_choices.specs.Indexing.{AreInOrder, IsIndex}
-use Rattle.clock_choices.specs.Opens.{ArePassed, reached_in}
+use Rattle.clock_choices.specs.Opens.{ArePassed}
 use Rattle.clock_choices.specs.Steps.{bare, sides_behind}
 
 -- these, one after another, on top of others: the last first

@@ -57,7 +57,7 @@ fn is_linked_with_run(graph: &Graph, run: &Run, id: TxnId) -> bool
     }
 }
 
-/// The same of all runs.
+/// Whether each other transaction of all these runs reaches the transaction, or is reached by it.
 fn is_linked_with_all(graph: &Graph, runs: &[Run], id: TxnId) -> bool
     requires runs { All (IsRunThere graph.now.gone graph.now.received) runs.now }
     requires there { HasNode graph.now id }

@@ -6,6 +6,7 @@ ghost use Rattle.order_check.specs.Based.{Remains, received_count};
 ghost use Rattle.order_check.specs.Cycles.{IsArc};
 ghost use Rattle.order_check.specs.Good.{IsGood};
 ghost use Rattle.session_clocks.specs.Graphs.{HasNode, IsOneMore};
+ghost use Rattle.clock_choices.specs.Extending.{Extends};
 ghost use Rattle.clock_choices.specs.Index.{AreRunsOf, IsRead, runs_of};
 ghost use Rattle.clock_choices.specs.Indexing.{IsIndex};
 ghost use Rattle.clock_choices.specs.Runs.{Climbs};
@@ -30,8 +31,7 @@ fn add_read(
     read: Read,
 ) -> Result<(), NoMemory>
     requires { All (λ run. Climbs run.numbers.items) (runs_of writers.now read.key) }
-    ensures gone { graph.new.gone ≡ graph.old.gone }
-    ensures received { graph.new.received ≡ graph.old.received }
+    ensures extends { Extends graph.old graph.new }
     ensures right { OnOk result ((parts : Parts) → AreRunsOf parts read.key (runs_of writers.now read.key) → IsRead parts read
         → All (IsArc parts []) graph.old.arcs → All (IsArc parts []) graph.new.arcs) }
 {
@@ -54,7 +54,7 @@ fn add_read(
     Ok(())
 }
 
-/// The same of reads, one after another.
+/// Adds the arcs of reads, one after another.
 fn add_reads(
     alloc: Global,
     writers: &BTreeMap<u64, Vec<Run>>,
@@ -62,8 +62,7 @@ fn add_reads(
     reads: &[Read],
 ) -> Result<(), NoMemory>
     requires { (key : ℕ) → All (λ run. Climbs run.numbers.items) (runs_of writers.now key) }
-    ensures gone { graph.new.gone ≡ graph.old.gone }
-    ensures received { graph.new.received ≡ graph.old.received }
+    ensures extends { Extends graph.old graph.new }
     ensures right { OnOk result ((parts : Parts) → ((key : ℕ) → AreRunsOf parts key (runs_of writers.now key)) → All (IsRead parts) reads.now
         → All (IsArc parts []) graph.old.arcs → All (IsArc parts []) graph.new.arcs) }
 {
@@ -165,7 +164,7 @@ fn add_ready(
     Ok(went)
 }
 
-/// The same of all sessions, one after another.
+/// Adds, session by session, the transactions whose sources aren't still to come, and says whether there were some.
 fn add_round(
     alloc: Global,
     parts: &Parts,
@@ -195,7 +194,7 @@ fn add_round(
     Ok(went)
 }
 
-/// The same again and again, until what is left waits for one another.
+/// Goes over all sessions again and again, until the transactions that are left wait for one another.
 fn add_rounds(
     alloc: Global,
     parts: &Parts,

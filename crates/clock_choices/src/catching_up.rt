@@ -3,8 +3,8 @@ ghost use Rattle.std.specs.Prelude.{◌≡◌, ◌+◌, ◌<◌, ◌^◌, List, 
 ghost use Rattle.txn.specs.declared.transactions.TxnId.{TxnId};
 ghost use Rattle.order_check.specs.declared.remainder.Parts.{Parts};
 ghost use Rattle.order_check.specs.Good.{IsGood};
-ghost use Rattle.session_clocks.specs.Graphs.{GraphState, last_mark};
 ghost use Rattle.clock_choices.specs.CatchingUp.{GoesOn};
+ghost use Rattle.clock_choices.specs.Extending.{Extends};
 ghost use Rattle.clock_choices.specs.Growth.{AreIdsFrom, IsNext};
 ghost use Rattle.clock_choices.specs.Held.{IsHeld};
 ghost use Rattle.clock_choices.specs.Indexing.{IsIndex};
@@ -56,9 +56,7 @@ fn bring_up(
     requires goes_on { (parts : Parts) × (few : List ℕ) × (session : ℕ) × (count : ℕ)
         × GoesOn parts more.now graph.old.gone few graph.old.received graph.old.arcs steps.old.items session count new.now
         × (first ≡ slice_index few session) }
-    ensures gone { graph.new.gone ≡ graph.old.gone }
-    ensures received { graph.new.received ≡ graph.old.received }
-    ensures mark { last_mark graph.new ≡ last_mark graph.old }
+    ensures extends { Extends graph.old graph.new }
     ensures held { OnOk result (IsHeld more.now graph.new.gone graph.new.received graph.new.arcs steps.new.items) }
     ensures logged { OnOk result (AreNewBehind more.now (map bare steps.old.items) (map bare steps.new.items)) }
     ensures err { OnErr result (steps.new.items ≡ steps.old.items) }
@@ -80,7 +78,8 @@ fn bring_up(
     Ok(())
 }
 
-/// The same, with the new transactions spread. On a cycle that matters most: the last of a session that comes onto it has all before it there.
+/// Adds what the new transactions bring, in an order in which they are spread. On a cycle that matters most: the last of a session that comes
+/// onto it has all before it there.
 fn bring_up_spread(
     alloc: Global,
     more: &Parts,
@@ -95,9 +94,7 @@ fn bring_up_spread(
     requires goes_on { (parts : Parts) × (few : List ℕ) × (session : ℕ) × (count : ℕ)
         × GoesOn parts more.now graph.old.gone few graph.old.received graph.old.arcs steps.old.items session count new.now
         × (first ≡ slice_index few session) }
-    ensures gone { graph.new.gone ≡ graph.old.gone }
-    ensures received { graph.new.received ≡ graph.old.received }
-    ensures mark { last_mark graph.new ≡ last_mark graph.old }
+    ensures extends { Extends graph.old graph.new }
     ensures held { OnOk result (IsHeld more.now graph.new.gone graph.new.received graph.new.arcs steps.new.items) }
     ensures logged { OnOk result (AreNewBehind more.now (map bare steps.old.items) (map bare steps.new.items)) }
     ensures err { OnErr result (steps.new.items ≡ steps.old.items) }
@@ -106,7 +103,7 @@ fn bring_up_spread(
     bring_up(alloc, more, index, graph, steps, first, &spread)
 }
 
-/// The same; where memory is refused, the graph and the steps are as they were.
+/// Adds what the new transactions bring, or leaves the graph and the steps as they were, if memory is refused.
 fn go_on(
     alloc: Global,
     more: &Parts,

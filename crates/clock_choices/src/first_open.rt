@@ -6,9 +6,10 @@ ghost use Rattle.order_check.specs.declared.remainder.Parts.{Parts};
 ghost use Rattle.order_check.specs.Based.{Remains};
 ghost use Rattle.order_check.specs.Known.{ReadsKey, WritesKey};
 ghost use Rattle.session_clocks.specs.Graphs.{HasNode};
+ghost use Rattle.clock_choices.specs.Extending.{reached_in};
 ghost use Rattle.clock_choices.specs.Index.{AreRunsOf, IsRead, IsRunThere};
 ghost use Rattle.clock_choices.specs.Indexing.{AreInOrder};
-ghost use Rattle.clock_choices.specs.Opens.{ArePassed, IsAsked, IsFirstIn, IsFirstOf, IsOfReader, IsOfRun, IsOfSource, IsOpenIn, IsRunOfRead, NoneOpen, read_of, reached_in};
+ghost use Rattle.clock_choices.specs.Opens.{ArePassed, IsAsked, IsFirstIn, IsFirstOf, IsOfReader, IsOfRun, IsOfSource, IsOpenIn, IsRunOfRead, NoneOpen, read_of};
 ghost use Rattle.clock_choices.specs.Writers.{AreRuns};
 
 use crate::index::{is_in_runs, runs_of};

@@ -95,7 +95,7 @@ fn add_read_of(
     add_read(alloc, reads, read)
 }
 
-/// The same of all that it reads.
+/// Puts all reads of a transaction among those of both who take part in each.
 fn add_reads(
     alloc: Global,
     reads: &mut Vec<BTreeMap<u64, Vec<Read>>>,
@@ -137,7 +137,7 @@ fn add_base_read(
     Ok(())
 }
 
-/// The same of all that it reads.
+/// Puts the reader among those of the base, for each key that it reads from there.
 fn add_base_reads(
     alloc: Global,
     base: &mut BTreeMap<u64, Vec<TxnId>>,

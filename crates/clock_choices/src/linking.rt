@@ -6,8 +6,8 @@ ghost use Rattle.txn.specs.Arcs.{start_of, end_of};
 ghost use Rattle.order_check.specs.declared.remainder.Parts.{Parts};
 ghost use Rattle.order_check.specs.Based.{Remains};
 ghost use Rattle.order_check.specs.Known.{ReadsBase, ReadsKey};
-ghost use Rattle.session_clocks.specs.Graphs.{HasNode, last_mark};
-ghost use Rattle.session_clocks.specs.Reach.{Reaches};
+ghost use Rattle.session_clocks.specs.Graphs.{HasNode};
+ghost use Rattle.clock_choices.specs.Extending.{Extends, reached_in};
 ghost use Rattle.clock_choices.specs.Forcing.{IsGrowth};
 ghost use Rattle.clock_choices.specs.declared.runs.Run.{Run};
 ghost use Rattle.clock_choices.specs.Index.{AreRunsOf, IsRead, IsRunThere, runs_of};
@@ -30,11 +30,9 @@ use txn::{Arc, NoMemory, Source, TxnId};
 fn link(alloc: Global, graph: &mut Graph, due: &mut Due, arc: Arc) -> Result<(), NoMemory>
     requires start { HasNode graph.old (start_of arc) }
     requires end { HasNode graph.old (end_of arc) }
-    ensures gone { graph.new.gone ≡ graph.old.gone }
-    ensures received { graph.new.received ≡ graph.old.received }
-    ensures mark { last_mark graph.new ≡ last_mark graph.old }
+    ensures extends { Extends graph.old graph.new }
     ensures arcs { OnOk result (graph.new.arcs ≡ graph.old.arcs ++ arc ∷ []) }
-    ensures growth { OnOk result (IsGrowth graph.old.gone graph.old.received graph.old.arcs due.old graph.new.arcs due.new) }
+    ensures growth { OnOk result (IsGrowth (reached_in graph.old) due.old (reached_in graph.new) due.new) }
 {
     let mut told = Vec::new(alloc);
     graph.add_arc(alloc, arc, &mut told)?;
@@ -51,12 +49,10 @@ fn link_read(
 ) -> Result<(), NoMemory>
     requires runs { All (IsRunThere graph.old.gone graph.old.received) (runs_of writers.now read.key) }
     requires reader { HasNode graph.old read.reader }
-    ensures gone { graph.new.gone ≡ graph.old.gone }
-    ensures received { graph.new.received ≡ graph.old.received }
-    ensures mark { last_mark graph.new ≡ last_mark graph.old }
+    ensures extends { Extends graph.old graph.new }
     ensures brings { OnOk result ((parts : Parts) → AreRunsOf parts read.key (runs_of writers.now read.key) → IsRead parts read
-        → Brings parts graph.old.gone graph.old.received graph.old.arcs due.old graph.new.arcs due.new
-        × IsLinked parts (Reaches graph.old.gone graph.old.received graph.new.arcs) read) }
+        → Brings parts graph.old due.old graph.new due.new
+        × IsLinked parts (reached_in graph.new) read) }
 {
     if graph.reaches(read.writer, read.reader) {
         return Ok(());
@@ -73,7 +69,7 @@ fn link_read(
     link(alloc, graph, due, arc)
 }
 
-/// The same of reads, one after another.
+/// Adds the arcs of reads, one after another.
 fn link_reads(
     alloc: Global,
     writers: &BTreeMap<u64, Vec<Run>>,
@@ -83,12 +79,10 @@ fn link_reads(
 ) -> Result<(), NoMemory>
     requires runs { (key : ℕ) → All (IsRunThere graph.old.gone graph.old.received) (runs_of writers.now key) }
     requires readers { All (λ read. HasNode graph.old read.reader) reads.now }
-    ensures gone { graph.new.gone ≡ graph.old.gone }
-    ensures received { graph.new.received ≡ graph.old.received }
-    ensures mark { last_mark graph.new ≡ last_mark graph.old }
+    ensures extends { Extends graph.old graph.new }
     ensures brings { OnOk result ((parts : Parts) → ((key : ℕ) → AreRunsOf parts key (runs_of writers.now key)) → All (IsRead parts) reads.now
-        → Brings parts graph.old.gone graph.old.received graph.old.arcs due.old graph.new.arcs due.new
-        × All (IsLinked parts (Reaches graph.old.gone graph.old.received graph.new.arcs)) reads.now) }
+        → Brings parts graph.old due.old graph.new due.new
+        × All (IsLinked parts (reached_in graph.new)) reads.now) }
 {
     for read in reads {
         link_read(alloc, writers, graph, due, *read)?;
@@ -107,12 +101,10 @@ fn link_run(
 ) -> Result<(), NoMemory>
     requires run { IsRunThere graph.old.gone graph.old.received run.now }
     requires reader { HasNode graph.old reader }
-    ensures gone { graph.new.gone ≡ graph.old.gone }
-    ensures received { graph.new.received ≡ graph.old.received }
-    ensures mark { last_mark graph.new ≡ last_mark graph.old }
+    ensures extends { Extends graph.old graph.new }
     ensures brings { OnOk result ((parts : Parts) (runs : List Run) → AreRunsOf parts key runs → Contains runs run.now → ReadsBase parts reader key
-        → Brings parts graph.old.gone graph.old.received graph.old.arcs due.old graph.new.arcs due.new
-        × IsBeforeRun (Reaches graph.old.gone graph.old.received graph.new.arcs) reader run.now) }
+        → Brings parts graph.old due.old graph.new due.new
+        × IsBeforeRun (reached_in graph.new) reader run.now) }
 {
     let Some(first) = first_from(run.session, &run.numbers, reader, reader, 0) else {
         return Ok(());
@@ -128,7 +120,7 @@ fn link_run(
     link(alloc, graph, due, arc)
 }
 
-/// The same of all its sessions.
+/// Adds the arcs from a reader of the base to the first other writer of the key in each session.
 fn link_runs(
     alloc: Global,
     graph: &mut Graph,
@@ -139,12 +131,10 @@ fn link_runs(
 ) -> Result<(), NoMemory>
     requires runs { All (IsRunThere graph.old.gone graph.old.received) runs.now }
     requires reader { HasNode graph.old reader }
-    ensures gone { graph.new.gone ≡ graph.old.gone }
-    ensures received { graph.new.received ≡ graph.old.received }
-    ensures mark { last_mark graph.new ≡ last_mark graph.old }
+    ensures extends { Extends graph.old graph.new }
     ensures brings { OnOk result ((parts : Parts) → AreRunsOf parts key runs.now → ReadsBase parts reader key
-        → Brings parts graph.old.gone graph.old.received graph.old.arcs due.old graph.new.arcs due.new
-        × All (IsBeforeRun (Reaches graph.old.gone graph.old.received graph.new.arcs) reader) runs.now) }
+        → Brings parts graph.old due.old graph.new due.new
+        × All (IsBeforeRun (reached_in graph.new) reader) runs.now) }
 {
     for run in runs {
         link_run(alloc, graph, due, reader, key, run)?;
@@ -167,11 +157,9 @@ fn link_base_read(
     requires writers { AreRunsOf parts.now key (runs_of writers.now key) }
     requires reader { HasNode graph.old reader }
     requires reads { ReadsKey parts.now reader key source }
-    ensures gone { graph.new.gone ≡ graph.old.gone }
-    ensures received { graph.new.received ≡ graph.old.received }
-    ensures mark { last_mark graph.new ≡ last_mark graph.old }
-    ensures brings { OnOk result (Brings parts.now graph.old.gone graph.old.received graph.old.arcs due.old graph.new.arcs due.new
-        × IsBaseLinked parts.now (Reaches graph.old.gone graph.old.received graph.new.arcs) writers.now reader (key, source)) }
+    ensures extends { Extends graph.old graph.new }
+    ensures brings { OnOk result (Brings parts.now graph.old due.old graph.new due.new
+        × IsBaseLinked parts.now (reached_in graph.new) writers.now reader (key, source)) }
 {
     if !is_base_source(parts, key, source) {
         return Ok(());
@@ -179,7 +167,7 @@ fn link_base_read(
     link_runs(alloc, graph, due, reader, key, runs_of(writers, key))
 }
 
-/// The same of all that it reads.
+/// Adds the arcs from a transaction to the other writers of each key that it reads from the base.
 fn link_base_reads(
     alloc: Global,
     parts: &Parts,
@@ -193,11 +181,9 @@ fn link_base_reads(
     requires writers { (key : ℕ) → AreRunsOf parts.now key (runs_of writers.now key) }
     requires reader { HasNode graph.old reader }
     requires reads { All (λ read. ReadsKey parts.now reader read.0 read.1) list.now }
-    ensures gone { graph.new.gone ≡ graph.old.gone }
-    ensures received { graph.new.received ≡ graph.old.received }
-    ensures mark { last_mark graph.new ≡ last_mark graph.old }
-    ensures brings { OnOk result (Brings parts.now graph.old.gone graph.old.received graph.old.arcs due.old graph.new.arcs due.new
-        × All (IsBaseLinked parts.now (Reaches graph.old.gone graph.old.received graph.new.arcs) writers.now reader) list.now) }
+    ensures extends { Extends graph.old graph.new }
+    ensures brings { OnOk result (Brings parts.now graph.old due.old graph.new due.new
+        × All (IsBaseLinked parts.now (reached_in graph.new) writers.now reader) list.now) }
 {
     for (key, source) in list {
         link_base_read(alloc, parts, writers, graph, due, reader, *key, *source)?;
@@ -216,12 +202,10 @@ fn link_readers(
 ) -> Result<(), NoMemory>
     requires run { IsRunThere graph.old.gone graph.old.received run.now }
     requires readers { All (HasNode graph.old) readers.now }
-    ensures gone { graph.new.gone ≡ graph.old.gone }
-    ensures received { graph.new.received ≡ graph.old.received }
-    ensures mark { last_mark graph.new ≡ last_mark graph.old }
+    ensures extends { Extends graph.old graph.new }
     ensures brings { OnOk result ((parts : Parts) (runs : List Run) → AreRunsOf parts key runs → Contains runs run.now → All (λ reader. ReadsBase parts reader key) readers.now
-        → Brings parts graph.old.gone graph.old.received graph.old.arcs due.old graph.new.arcs due.new
-        × All (λ reader. IsBeforeRun (Reaches graph.old.gone graph.old.received graph.new.arcs) reader run.now) readers.now) }
+        → Brings parts graph.old due.old graph.new due.new
+        × All (λ reader. IsBeforeRun (reached_in graph.new) reader run.now) readers.now) }
 {
     for reader in readers {
         link_run(alloc, graph, due, *reader, key, run)?;
@@ -229,7 +213,8 @@ fn link_readers(
     Ok(())
 }
 
-/// The same of a session's run, unless two of its writers stand below the number: each of the readers had an arc to one of these.
+/// Adds the arcs from readers of the base to a session's run, unless two of its writers stand below the number: each of the readers had an arc
+/// to one of these.
 fn link_session(
     alloc: Global,
     graph: &mut Graph,
@@ -242,12 +227,10 @@ fn link_session(
 ) -> Result<(), NoMemory>
     requires run { IsRunThere graph.old.gone graph.old.received run.now }
     requires readers { All (HasNode graph.old) readers.now }
-    ensures gone { graph.new.gone ≡ graph.old.gone }
-    ensures received { graph.new.received ≡ graph.old.received }
-    ensures mark { last_mark graph.new ≡ last_mark graph.old }
+    ensures extends { Extends graph.old graph.new }
     ensures brings { OnOk result ((parts : Parts) (runs : List Run) → AreRunsOf parts key runs → Contains runs run.now → All (λ reader. ReadsBase parts reader key) readers.now
-        → Brings parts graph.old.gone graph.old.received graph.old.arcs due.old graph.new.arcs due.new
-        × IsSessionLinked (Reaches graph.old.gone graph.old.received graph.new.arcs) session first readers.now run.now) }
+        → Brings parts graph.old due.old graph.new due.new
+        × IsSessionLinked (reached_in graph.new) session first readers.now run.now) }
 {
     if run.session != session {
         return Ok(());
@@ -259,7 +242,7 @@ fn link_session(
     link_readers(alloc, graph, due, key, run, readers)
 }
 
-/// The same of the runs of a key.
+/// Adds the arcs from readers of the base to the session's run among the runs of a key.
 fn link_writer(
     alloc: Global,
     graph: &mut Graph,
@@ -272,12 +255,10 @@ fn link_writer(
 ) -> Result<(), NoMemory>
     requires runs { All (IsRunThere graph.old.gone graph.old.received) runs.now }
     requires readers { All (HasNode graph.old) readers.now }
-    ensures gone { graph.new.gone ≡ graph.old.gone }
-    ensures received { graph.new.received ≡ graph.old.received }
-    ensures mark { last_mark graph.new ≡ last_mark graph.old }
+    ensures extends { Extends graph.old graph.new }
     ensures brings { OnOk result ((parts : Parts) → AreRunsOf parts key runs.now → All (λ reader. ReadsBase parts reader key) readers.now
-        → Brings parts graph.old.gone graph.old.received graph.old.arcs due.old graph.new.arcs due.new
-        × All (IsSessionLinked (Reaches graph.old.gone graph.old.received graph.new.arcs) session first readers.now) runs.now) }
+        → Brings parts graph.old due.old graph.new due.new
+        × All (IsSessionLinked (reached_in graph.new) session first readers.now) runs.now) }
 {
     for run in runs {
         link_session(alloc, graph, due, key, session, first, run, readers)?;
@@ -298,11 +279,9 @@ fn link_writes(
 ) -> Result<(), NoMemory>
     requires index { IsIndex parts.now index.now }
     requires nodes { AreNodesOf parts.now graph.old.gone graph.old.received }
-    ensures gone { graph.new.gone ≡ graph.old.gone }
-    ensures received { graph.new.received ≡ graph.old.received }
-    ensures mark { last_mark graph.new ≡ last_mark graph.old }
-    ensures brings { OnOk result (Brings parts.now graph.old.gone graph.old.received graph.old.arcs due.old graph.new.arcs due.new
-        × All (AreWritersLinked (Reaches graph.old.gone graph.old.received graph.new.arcs) index.now session first) keys.now) }
+    ensures extends { Extends graph.old graph.new }
+    ensures brings { OnOk result (Brings parts.now graph.old due.old graph.new due.new
+        × All (AreWritersLinked (reached_in graph.new) index.now session first) keys.now) }
 {
     for key in keys {
         let runs = runs_of(&index.writers, *key);
@@ -325,11 +304,9 @@ fn link_txn(
     requires index { IsIndex parts.now index.now }
     requires nodes { AreNodesOf parts.now graph.old.gone graph.old.received }
     requires remains { Remains parts.now id }
-    ensures gone { graph.new.gone ≡ graph.old.gone }
-    ensures received { graph.new.received ≡ graph.old.received }
-    ensures mark { last_mark graph.new ≡ last_mark graph.old }
-    ensures brings { OnOk result (Brings parts.now graph.old.gone graph.old.received graph.old.arcs due.old graph.new.arcs due.new
-        × IsTxnLinked parts.now (Reaches graph.old.gone graph.old.received graph.new.arcs) first id) }
+    ensures extends { Extends graph.old graph.new }
+    ensures brings { OnOk result (Brings parts.now graph.old due.old graph.new due.new
+        × IsTxnLinked parts.now (reached_in graph.new) first id) }
 {
     let Some(txn) = parts.remaining_at(id) else {
         unreachable!()
@@ -355,11 +332,9 @@ pub(crate) fn link_txns(
     requires index { IsIndex parts.now index.now }
     requires nodes { AreNodesOf parts.now graph.old.gone graph.old.received }
     requires remain { All (Remains parts.now) ids.now }
-    ensures gone { graph.new.gone ≡ graph.old.gone }
-    ensures received { graph.new.received ≡ graph.old.received }
-    ensures mark { last_mark graph.new ≡ last_mark graph.old }
-    ensures brings { OnOk result (Brings parts.now graph.old.gone graph.old.received graph.old.arcs due.old graph.new.arcs due.new
-        × All (IsTxnLinked parts.now (Reaches graph.old.gone graph.old.received graph.new.arcs) first) ids.now) }
+    ensures extends { Extends graph.old graph.new }
+    ensures brings { OnOk result (Brings parts.now graph.old due.old graph.new due.new
+        × All (IsTxnLinked parts.now (reached_in graph.new) first) ids.now) }
 {
     for id in ids {
         link_txn(alloc, parts, index, graph, due, first, *id)?;

@@ -9,11 +9,12 @@ ghost use Rattle.order_check.specs.Known.{AreOpenChoices, Known, ReadsKey, Write
 ghost use Rattle.session_clocks.specs.Graphs.{HasNode};
 ghost use Rattle.clock_choices.specs.Counted.{IsCounted, TalliesOn};
 ghost use Rattle.clock_choices.specs.CountedChoices.{AreFirstOpen};
+ghost use Rattle.clock_choices.specs.Extending.{reached_in};
 ghost use Rattle.clock_choices.specs.Index.{AreRunsOf, IsRead, IsRunThere};
 ghost use Rattle.clock_choices.specs.Indexing.{AreInOrder, IsIndex};
 ghost use Rattle.clock_choices.specs.KeptLists.{IsListed};
 ghost use Rattle.clock_choices.specs.Linking.{AreNodesOf};
-ghost use Rattle.clock_choices.specs.Opens.{AreOpenOf, IsAsked, IsOfReader, IsOfRun, IsOfSource, IsRunOfRead, choices_at, read_of, reached_in};
+ghost use Rattle.clock_choices.specs.Opens.{AreOpenOf, IsAsked, IsOfReader, IsOfRun, IsOfSource, IsRunOfRead, choices_at, read_of};
 ghost use Rattle.clock_choices.specs.SharedIndexes.{IsIndexIn};
 ghost use Rattle.clock_choices.specs.Writers.{AreRuns};
 
@@ -136,7 +137,7 @@ fn count_run(
     Ok(())
 }
 
-/// The same of all the runs of a read from a writer of its key.
+/// Counts and lists the open choices of a read from a writer of its key, run by run.
 fn count_read(
     tally: &mut Tally,
     most: usize,
@@ -159,7 +160,7 @@ fn count_read(
     Ok(())
 }
 
-/// The same of what a transaction reads of a key.
+/// Counts and lists the open choices of what a transaction reads of a key.
 fn count_source(
     tally: &mut Tally,
     most: usize,
@@ -188,7 +189,7 @@ fn count_source(
     count_read(tally, most, asked.graph, read, runs)
 }
 
-/// The same of all that a transaction reads.
+/// Counts and lists the open choices of all that a transaction reads.
 fn count_txn(tally: &mut Tally, most: usize, asked: &Asked, reader: TxnId) -> Result<(), NoMemory>
     requires asked { IsAsked asked.now.parts.now asked.now.index.now asked.now.graph.now }
     requires remains { Remains asked.now.parts.now reader }
@@ -228,7 +229,7 @@ pub(crate) fn count_open(
     Ok(OpenChoices { first, count })
 }
 
-/// The same where what is known of the parts is reached in the graph.
+/// The first so many of the open choices of parts, of which the graph reaches what is known.
 fn open_with(
     alloc: Global,
     parts: &Parts,
@@ -252,7 +253,7 @@ fn open_with(
     Ok(found)
 }
 
-/// The same where the index may have to be made.
+/// The first so many of the open choices of parts, whose index is made if there is none.
 pub(crate) fn open_of(
     alloc: Global,
     parts: &Parts,

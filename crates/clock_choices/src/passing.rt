@@ -70,7 +70,7 @@ fn note_run(
     Ok(())
 }
 
-/// The same of all sessions.
+/// Notes, session by session, those that reach the transaction, but for those that reach the earlier writer.
 fn note_runs(
     graph: &Graph,
     due: &mut Due,
@@ -113,7 +113,7 @@ fn note_key(graph: &Graph, due: &mut Due, runs: &[Run], id: TxnId) -> Result<(),
     note_runs(graph, due, runs, id, earlier)
 }
 
-/// The same of keys, one after another.
+/// Notes whoever has to be looked at since the transaction is one of the writers of these keys.
 fn note_keys(
     index: &Index,
     graph: &Graph,
@@ -154,7 +154,7 @@ fn note_txn(
     note_keys(index, graph, due, id, keys)
 }
 
-/// The same of transactions, one after another.
+/// Notes whoever has to be looked at since these transactions write their keys.
 pub(crate) fn note_txns(
     parts: &Parts,
     index: &Index,

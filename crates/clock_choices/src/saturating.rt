@@ -1,9 +1,9 @@
 // The reads of those that are due are settled, and then of those that this makes due, until none is.
-ghost use Rattle.std.specs.Prelude.{◌≡◌, ◌⊎◌, ℕ, [], All, Contains, IfOk, IsTrue, OnOk};
+ghost use Rattle.std.specs.Prelude.{◌⊎◌, ℕ, [], All, Contains, IfOk, IsTrue, OnOk};
 ghost use Rattle.txn.specs.declared.transactions.TxnId.{TxnId};
 ghost use Rattle.order_check.specs.declared.remainder.Parts.{Parts};
-ghost use Rattle.session_clocks.specs.Graphs.{HasNode, last_mark};
-ghost use Rattle.session_clocks.specs.Reach.{Reaches};
+ghost use Rattle.session_clocks.specs.Graphs.{HasNode};
+ghost use Rattle.clock_choices.specs.Extending.{Extends, reached_in};
 ghost use Rattle.clock_choices.specs.Forcing.{Forces, IsGrowth};
 ghost use Rattle.clock_choices.specs.Index.{AreReadsOf, AreRunsOf, IsRead, IsRunThere, reads_of, runs_of};
 ghost use Rattle.clock_choices.specs.Closed.{IsClosed};
@@ -32,14 +32,12 @@ fn settle_due(
 ) -> Result<(), NoMemory>
     requires runs { All (IsRunThere graph.old.gone graph.old.received) (runs_of writers.now read.key) }
     requires reader { HasNode graph.old read.reader }
-    ensures gone { graph.new.gone ≡ graph.old.gone }
-    ensures received { graph.new.received ≡ graph.old.received }
-    ensures mark { last_mark graph.new ≡ last_mark graph.old }
-    ensures growth { OnOk result (IsGrowth graph.old.gone graph.old.received graph.old.arcs due.old graph.new.arcs due.new) }
+    ensures extends { Extends graph.old graph.new }
+    ensures growth { OnOk result (IsGrowth (reached_in graph.old) due.old (reached_in graph.new) due.new) }
     ensures forces { OnOk result ((parts : Parts) → AreRunsOf parts read.key (runs_of writers.now read.key) → IsRead parts read
-        → Forces parts graph.old.gone graph.old.received graph.old.arcs steps.old.items graph.new.arcs steps.new.items) }
+        → Forces parts graph.old steps.old.items graph.new steps.new.items) }
     ensures settled { OnOk result ((parts : Parts) → AreRunsOf parts read.key (runs_of writers.now read.key)
-        → IsReadSettled parts graph.old.gone graph.old.received graph.new.arcs due.new read) }
+        → IsReadSettled parts (reached_in graph.new) due.new read) }
 {
     let runs = runs_of(writers, read.key);
     if !is_in_runs(runs, read.writer) {
@@ -50,7 +48,7 @@ fn settle_due(
     due.note_all(&told)
 }
 
-/// The same of reads, one after another.
+/// Settles reads, one after another, and notes whoever has to be looked at again.
 fn settle_reads(
     alloc: Global,
     writers: &BTreeMap<u64, Vec<Run>>,
@@ -61,14 +59,12 @@ fn settle_reads(
 ) -> Result<(), NoMemory>
     requires runs { (key : ℕ) → All (IsRunThere graph.old.gone graph.old.received) (runs_of writers.now key) }
     requires readers { All (λ read. HasNode graph.old read.reader) reads.now }
-    ensures gone { graph.new.gone ≡ graph.old.gone }
-    ensures received { graph.new.received ≡ graph.old.received }
-    ensures mark { last_mark graph.new ≡ last_mark graph.old }
-    ensures growth { OnOk result (IsGrowth graph.old.gone graph.old.received graph.old.arcs due.old graph.new.arcs due.new) }
+    ensures extends { Extends graph.old graph.new }
+    ensures growth { OnOk result (IsGrowth (reached_in graph.old) due.old (reached_in graph.new) due.new) }
     ensures forces { OnOk result ((parts : Parts) → ((key : ℕ) → AreRunsOf parts key (runs_of writers.now key)) → All (IsRead parts) reads.now
-        → Forces parts graph.old.gone graph.old.received graph.old.arcs steps.old.items graph.new.arcs steps.new.items) }
+        → Forces parts graph.old steps.old.items graph.new steps.new.items) }
     ensures settled { OnOk result ((parts : Parts) → ((key : ℕ) → AreRunsOf parts key (runs_of writers.now key))
-        → All (λ read. IsReadSettled parts graph.old.gone graph.old.received graph.new.arcs due.new read) reads.now) }
+        → All (λ read. IsReadSettled parts (reached_in graph.new) due.new read) reads.now) }
 {
     for read in reads {
         settle_due(alloc, writers, graph, steps, due, *read)?;
@@ -102,7 +98,7 @@ fn reads_in_turn(
     Ok(turn)
 }
 
-/// The same of the reads in which the transactions of a batch take part; those that are due then.
+/// Settles the reads in which the transactions of a batch take part, and tells who is due then.
 fn settle_batch(
     alloc: Global,
     writers: &BTreeMap<u64, Vec<Run>>,
@@ -113,14 +109,12 @@ fn settle_batch(
 ) -> Result<Due, NoMemory>
     requires runs { (key : ℕ) → All (IsRunThere graph.old.gone graph.old.received) (runs_of writers.now key) }
     requires readers { (id : TxnId) → All (λ read. HasNode graph.old read.reader) (reads_of reads.now id) }
-    ensures gone { graph.new.gone ≡ graph.old.gone }
-    ensures received { graph.new.received ≡ graph.old.received }
-    ensures mark { last_mark graph.new ≡ last_mark graph.old }
-    ensures growth { IfOk result (λ then. IsGrowth graph.old.gone graph.old.received graph.old.arcs [] graph.new.arcs then) }
+    ensures extends { Extends graph.old graph.new }
+    ensures growth { IfOk result (λ then. IsGrowth (reached_in graph.old) [] (reached_in graph.new) then) }
     ensures forces { OnOk result ((parts : Parts) → ((key : ℕ) → AreRunsOf parts key (runs_of writers.now key)) → ((id : TxnId) → AreReadsOf parts id (reads_of reads.now id))
-        → Forces parts graph.old.gone graph.old.received graph.old.arcs steps.old.items graph.new.arcs steps.new.items) }
+        → Forces parts graph.old steps.old.items graph.new steps.new.items) }
     ensures settled { IfOk result (λ then. (parts : Parts) → ((key : ℕ) → AreRunsOf parts key (runs_of writers.now key)) → ((id : TxnId) → AreReadsOf parts id (reads_of reads.now id))
-        → All (IsTxnSettled parts graph.old.gone graph.old.received graph.new.arcs then) batch.now) }
+        → All (IsTxnSettled parts (reached_in graph.new) then) batch.now) }
 {
     let mut due = Due::new(alloc, graph.gone(), graph.received())?;
     let ids = batch.ids();
@@ -152,14 +146,12 @@ pub(crate) fn saturate(
 ) -> Result<(), NoMemory>
     requires runs { (key : ℕ) → All (IsRunThere graph.old.gone graph.old.received) (runs_of writers.now key) }
     requires readers { (id : TxnId) → All (λ read. HasNode graph.old read.reader) (reads_of reads.now id) }
-    ensures gone { graph.new.gone ≡ graph.old.gone }
-    ensures received { graph.new.received ≡ graph.old.received }
-    ensures mark { last_mark graph.new ≡ last_mark graph.old }
+    ensures extends { Extends graph.old graph.new }
     ensures forces { OnOk result ((parts : Parts) → ((key : ℕ) → AreRunsOf parts key (runs_of writers.now key)) → ((id : TxnId) → AreReadsOf parts id (reads_of reads.now id))
-        → Forces parts graph.old.gone graph.old.received graph.old.arcs steps.old.items graph.new.arcs steps.new.items) }
+        → Forces parts graph.old steps.old.items graph.new steps.new.items) }
     ensures closed { OnOk result ((parts : Parts) → ((key : ℕ) → AreRunsOf parts key (runs_of writers.now key)) → ((id : TxnId) → AreReadsOf parts id (reads_of reads.now id))
-        → IsClosedBut parts (Reaches graph.old.gone graph.old.received graph.old.arcs) (λ id. Contains due.items id)
-        → IsClosed parts (Reaches graph.old.gone graph.old.received graph.new.arcs)) }
+        → IsClosedBut parts (reached_in graph.old) (λ id. Contains due.items id)
+        → IsClosed parts (reached_in graph.new)) }
 {
     let noted = noted_of(alloc, graph, &due)?;
     let mut batch = noted;

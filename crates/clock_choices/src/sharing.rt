@@ -31,7 +31,7 @@ impl SharedIndex {
         &self.shared
     }
 
-    /// The same once more. Nothing of the index is copied.
+    /// The index, shared once more. Nothing of it is copied.
     fn share(&self) -> Result<SharedIndex, NoMemory>
         ensures { IfOk result (λ other. index_in other ≡ index_in self.now) }
     {

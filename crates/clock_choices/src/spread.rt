@@ -21,7 +21,7 @@ fn note_every(due: &mut Due, ids: &[TxnId], step: usize) -> Result<(), NoMemory>
     Ok(())
 }
 
-/// The same transactions, each once: the last one first, then the middle, the quarters, and so on. They are of a graph where so many of each session
+/// The transactions, each once: the last one first, then the middle, the quarters, and so on. They are of a graph where so many of each session
 /// are gone, and so many were received.
 pub(crate) fn spread_of(
     alloc: Global,

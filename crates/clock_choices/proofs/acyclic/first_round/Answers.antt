@@ -1,4 +1,4 @@
-use Rattle.std.proofs.Common.{◌≡◌, ◌+◌, List, Option, take, subst}
+use Rattle.std.proofs.Common.{◌+◌, List, Option, take, subst}
 use Rattle.std.specs.Prelude.{MatchOption}
 use Rattle.txn.specs.declared.choices.Arc.{Arc}
 use Rattle.session_clocks.specs.Paths.{IsPathOf}

@@ -24,7 +24,7 @@ returns-clause-up c =
     let is = c.requires.graph in
     let at = c.requires.index in
     let of = at.reads c.in_ok-id.id in
-    let one = subst (λ (xs : List ℕ). IsOneMore old.received xs c.args.session) (sym c.add_reads.ensures.received) c.in_ok-id.ensures.received in
+    let one = subst (λ (xs : List ℕ). IsOneMore old.received xs c.args.session) (sym c.add_reads.ensures.extends.received) c.in_ok-id.ensures.received in
     let right = subst (λ (arcs : List Arc). All (IsArc parts []) arcs) (sym c.in_ok-id.ensures.arcs) is.right in
-    on_ok_weaker c.add_reads.result (λ all. goes_one parts old c.add_reads.new.graph c.args.session is (c.add_reads.ensures.gone ∙ c.in_ok-id.ensures.gone) one c.requires.next (all parts at.writers of.each right))
+    on_ok_weaker c.add_reads.result (λ all. goes_one parts old c.add_reads.new.graph c.args.session is (c.add_reads.ensures.extends.gone ∙ c.in_ok-id.ensures.gone) one c.requires.next (all parts at.writers of.each right))
     (rw (c.reads_of.ensures, c.deref.ensures.value) at c.add_reads.ensures.right)

@@ -1,6 +1,3 @@
-use Rattle.std.proofs.Common.{subst}
-use Rattle.std.specs.Prelude.{◌↔◌}
-use Rattle.txn.specs.declared.transactions.TxnId.{TxnId}
 use Rattle.clock_choices.proofs.Catching.{goes_on_spread}
 use Rattle.clock_choices.proofs.catching_up.bring_up_spread.Goals as goal
 

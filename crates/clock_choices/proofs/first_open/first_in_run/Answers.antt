@@ -1,7 +1,8 @@
 use Rattle.std.proofs.Common.{get_or, sym, subst}
 use Rattle.std.proofs.lemmas.List.Elements.{Contains-get_or}
 use Rattle.txn.specs.declared.choices.Choice.{Choice}
-use Rattle.clock_choices.specs.Opens.{IsFirstOf, IsOfRun, reached_in}
+use Rattle.clock_choices.specs.Extending.{reached_in}
+use Rattle.clock_choices.specs.Opens.{IsFirstOf, IsOfRun}
 use Rattle.clock_choices.proofs.OpenReads.{first_of_run, none_of_run}
 use Rattle.clock_choices.proofs.first_open.first_in_run.Goals as goal
 

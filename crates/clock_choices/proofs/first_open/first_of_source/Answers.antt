@@ -8,8 +8,9 @@ use Rattle.txn.specs.declared.choices.Choice.{Choice}
 use Rattle.order_check.specs.Known.{ReadsKey, WritesKey}
 use Rattle.clock_choices.specs.declared.reads.Read.{Read}
 use Rattle.clock_choices.specs.declared.runs.Run.{Run}
+use Rattle.clock_choices.specs.Extending.{reached_in}
 use Rattle.clock_choices.specs.Index.{runs_of}
-use Rattle.clock_choices.specs.Opens.{IsFirstOf, IsOfSource, NoneOpen, read_of, reached_in}
+use Rattle.clock_choices.specs.Opens.{IsFirstOf, IsOfSource, NoneOpen, read_of}
 use Rattle.clock_choices.specs.Runs.{Climbs}
 use Rattle.clock_choices.specs.Writers.{IsRun}
 use Rattle.clock_choices.proofs.Links.{index_there}

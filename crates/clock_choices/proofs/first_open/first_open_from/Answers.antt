@@ -5,7 +5,8 @@ use Rattle.std.proofs.lemmas.List.{get_or_default, take_all}
 use Rattle.txn.specs.declared.transactions.TxnId.{TxnId}
 use Rattle.txn.specs.declared.choices.Choice.{Choice}
 use Rattle.clock_choices.specs.Adds.{Among}
-use Rattle.clock_choices.specs.Opens.{IsOfReader, NoneOpen, reached_in}
+use Rattle.clock_choices.specs.Extending.{reached_in}
+use Rattle.clock_choices.specs.Opens.{IsOfReader, NoneOpen}
 use Rattle.clock_choices.proofs.OpenReads.{readers_all, readers_apart}
 use Rattle.clock_choices.proofs.Opens.{first_at, first_same, none_all, none_more}
 use Rattle.clock_choices.proofs.first_open.first_open_from.Goals as goal

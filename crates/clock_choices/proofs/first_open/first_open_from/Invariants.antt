@@ -1,4 +1,5 @@
-use Rattle.clock_choices.specs.Opens.{ArePassed, reached_in}
+use Rattle.clock_choices.specs.Extending.{reached_in}
+use Rattle.clock_choices.specs.Opens.{ArePassed}
 use Rattle.clock_choices.proofs.first_open.first_open_from.Given as goal
 
 abbrev pub invariant-loop-place : goal.invariant-loop-place

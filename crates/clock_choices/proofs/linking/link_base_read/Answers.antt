@@ -9,8 +9,7 @@ link_runs-requires c = rw c.runs_of.ensures record { runs = c.requires.runs; rea
 
 pub returns-then-not-is_base_source-clause-brings : goal.returns-then-not-is_base_source-clause-brings
 returns-then-not-is_base_source-clause-brings c =
-    let graph = c.args.graph.now in
-    (brings_none c.args.parts.now graph.gone graph.received graph.arcs c.args.due.now, λ base. absurd (false≢true (sym c.if-not-is_base_source.true ∙ c.is_base_source.ensures.1 base)))
+    (brings_none c.args.parts.now c.args.graph.now c.args.due.now, λ base. absurd (false≢true (sym c.if-not-is_base_source.true ∙ c.is_base_source.ensures.1 base)))
 
 pub returns-clause-brings : goal.returns-clause-brings
 returns-clause-brings c =

@@ -1,13 +1,10 @@
-use Rattle.std.proofs.Common.{◌≡◌, All, take}
-use Rattle.session_clocks.specs.Graphs.{last_mark}
-use Rattle.session_clocks.specs.Reach.{Reaches}
+use Rattle.std.proofs.Common.{All, take}
+use Rattle.clock_choices.specs.Extending.{Extends, reached_in}
 use Rattle.clock_choices.specs.Linking.{Brings, IsTxnLinked}
 use Rattle.clock_choices.proofs.linking.link_txns.Given as goal
 
 abbrev pub invariant-loop-id : goal.invariant-loop-id
 invariant-loop-id l = record {
-  gone : l.graph.gone ≡ l.initial.graph.gone;
-  received : l.graph.received ≡ l.initial.graph.received;
-  mark : last_mark l.graph ≡ last_mark l.initial.graph;
-  brings : Brings l.parts l.initial.graph.gone l.initial.graph.received l.initial.graph.arcs l.initial.due l.graph.arcs l.due × All (IsTxnLinked l.parts (Reaches l.initial.graph.gone l.initial.graph.received l.graph.arcs) l.first) (take l.id-index l.ids);
+  extends : Extends l.initial.graph l.graph;
+  brings : Brings l.parts l.initial.graph l.initial.due l.graph l.due × All (IsTxnLinked l.parts (reached_in l.graph) l.first) (take l.id-index l.ids);
 }

@@ -1,17 +1,14 @@
-use Rattle.std.proofs.Common.{◌≡◌, All, take}
+use Rattle.std.proofs.Common.{All, take}
 use Rattle.order_check.specs.declared.remainder.Parts.{Parts}
 use Rattle.order_check.specs.Known.{ReadsBase}
-use Rattle.session_clocks.specs.Graphs.{last_mark}
-use Rattle.session_clocks.specs.Reach.{Reaches}
+use Rattle.clock_choices.specs.Extending.{Extends, reached_in}
 use Rattle.clock_choices.specs.Index.{AreRunsOf}
 use Rattle.clock_choices.specs.Linking.{Brings, IsSessionLinked}
 use Rattle.clock_choices.proofs.linking.link_writer.Given as goal
 
 abbrev pub invariant-loop-run : goal.invariant-loop-run
 invariant-loop-run l = record {
-  gone : l.graph.gone ≡ l.initial.graph.gone;
-  received : l.graph.received ≡ l.initial.graph.received;
-  mark : last_mark l.graph ≡ last_mark l.initial.graph;
+  extends : Extends l.initial.graph l.graph;
   brings : (parts : Parts) → AreRunsOf parts l.key l.runs → All (λ reader. ReadsBase parts reader l.key) l.readers
-      → Brings parts l.initial.graph.gone l.initial.graph.received l.initial.graph.arcs l.initial.due l.graph.arcs l.due × All (IsSessionLinked (Reaches l.initial.graph.gone l.initial.graph.received l.graph.arcs) l.session l.first l.readers) (take l.run-index l.runs);
+      → Brings parts l.initial.graph l.initial.due l.graph l.due × All (IsSessionLinked (reached_in l.graph) l.session l.first l.readers) (take l.run-index l.runs);
 }

@@ -1,13 +1,10 @@
-use Rattle.std.proofs.Common.{◌≡◌, All, take}
-use Rattle.session_clocks.specs.Graphs.{last_mark}
-use Rattle.session_clocks.specs.Reach.{Reaches}
+use Rattle.std.proofs.Common.{All, take}
+use Rattle.clock_choices.specs.Extending.{Extends, reached_in}
 use Rattle.clock_choices.specs.Linking.{AreWritersLinked, Brings}
 use Rattle.clock_choices.proofs.linking.link_writes.Given as goal
 
 abbrev pub invariant-loop-key : goal.invariant-loop-key
 invariant-loop-key l = record {
-  gone : l.graph.gone ≡ l.initial.graph.gone;
-  received : l.graph.received ≡ l.initial.graph.received;
-  mark : last_mark l.graph ≡ last_mark l.initial.graph;
-  brings : Brings l.parts l.initial.graph.gone l.initial.graph.received l.initial.graph.arcs l.initial.due l.graph.arcs l.due × All (AreWritersLinked (Reaches l.initial.graph.gone l.initial.graph.received l.graph.arcs) l.index l.session l.first) (take l.key-index l.keys);
+  extends : Extends l.initial.graph l.graph;
+  brings : Brings l.parts l.initial.graph l.initial.due l.graph l.due × All (AreWritersLinked (reached_in l.graph) l.index l.session l.first) (take l.key-index l.keys);
 }

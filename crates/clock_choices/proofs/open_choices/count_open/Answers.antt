@@ -5,7 +5,8 @@ use Rattle.std.proofs.lemmas.List.Elements.{Contains-get_or}
 use Rattle.txn.specs.declared.transactions.TxnId.{TxnId}
 use Rattle.txn.specs.declared.choices.Choice.{Choice}
 use Rattle.clock_choices.specs.Adds.{Among}
-use Rattle.clock_choices.specs.Opens.{IsOfReader, reached_in}
+use Rattle.clock_choices.specs.Extending.{reached_in}
+use Rattle.clock_choices.specs.Opens.{IsOfReader}
 use Rattle.clock_choices.proofs.OpenReads.{readers_all, readers_apart}
 use Rattle.clock_choices.proofs.Opens.{among_none, open_all, open_more, open_nothing, open_same}
 use Rattle.clock_choices.proofs.open_choices.count_open.Goals as goal

@@ -4,8 +4,9 @@ use Rattle.order_check.specs.declared.remainder.Parts.{Parts}
 use Rattle.order_check.specs.Known.{WritesKey}
 use Rattle.clock_choices.specs.Adds.{Among}
 use Rattle.clock_choices.specs.Counted.{TalliesOn}
+use Rattle.clock_choices.specs.Extending.{reached_in}
 use Rattle.clock_choices.specs.Index.{AreRunsOf, IsRead}
-use Rattle.clock_choices.specs.Opens.{AreOpenOf, IsOfRun, reached_in}
+use Rattle.clock_choices.specs.Opens.{AreOpenOf, IsOfRun}
 use Rattle.clock_choices.proofs.open_choices.count_read.Given as goal
 
 abbrev pub invariant-loop-run : goal.invariant-loop-run

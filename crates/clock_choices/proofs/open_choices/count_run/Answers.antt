@@ -2,7 +2,8 @@ use Rattle.std.proofs.Common.{◌≡◌, ◌++◌, ◌+◌, ◌-◌, ◌∙◌, 
 use Rattle.std.proofs.lemmas.List.{length-drop, length-take-le}
 use Rattle.std.proofs.lemmas.List.Elements.{Contains-get_or}
 use Rattle.txn.specs.declared.choices.Choice.{Choice}
-use Rattle.clock_choices.specs.Opens.{choices_at, reached_in}
+use Rattle.clock_choices.specs.Extending.{reached_in}
+use Rattle.clock_choices.specs.Opens.{choices_at}
 use Rattle.clock_choices.specs.Spans.{IsOpenSpan}
 use Rattle.clock_choices.proofs.Countings.{choices_length}
 use Rattle.clock_choices.proofs.OpenReads.{open_of_run}

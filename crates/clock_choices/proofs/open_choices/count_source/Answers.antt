@@ -9,8 +9,9 @@ use Rattle.order_check.specs.Known.{ReadsKey, WritesKey}
 use Rattle.clock_choices.specs.declared.reads.Read.{Read}
 use Rattle.clock_choices.specs.declared.runs.Run.{Run}
 use Rattle.clock_choices.specs.Counted.{TalliesOn}
+use Rattle.clock_choices.specs.Extending.{reached_in}
 use Rattle.clock_choices.specs.Index.{runs_of}
-use Rattle.clock_choices.specs.Opens.{AreOpenOf, IsOfSource, NoneOpen, read_of, reached_in}
+use Rattle.clock_choices.specs.Opens.{AreOpenOf, IsOfSource, NoneOpen, read_of}
 use Rattle.clock_choices.specs.Runs.{Climbs}
 use Rattle.clock_choices.specs.Writers.{IsRun}
 use Rattle.clock_choices.proofs.Countings.{tallies_none}

@@ -6,7 +6,8 @@ use Rattle.txn.specs.declared.transactions.Source.TheVariants.{Init}
 use Rattle.txn.specs.declared.choices.Choice.{Choice}
 use Rattle.txn.specs.Transactions.{read_below}
 use Rattle.clock_choices.specs.Adds.{Among}
-use Rattle.clock_choices.specs.Opens.{IsOfReader, IsOfSource, reached_in}
+use Rattle.clock_choices.specs.Extending.{reached_in}
+use Rattle.clock_choices.specs.Opens.{IsOfReader, IsOfSource}
 use Rattle.clock_choices.proofs.ChoiceOrder.{reads_rise}
 use Rattle.clock_choices.proofs.Countings.{tallies_both, tallies_none}
 use Rattle.clock_choices.proofs.Links.{all_read}

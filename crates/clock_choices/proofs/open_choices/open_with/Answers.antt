@@ -1,5 +1,5 @@
 use Rattle.order_check.specs.Known.{by_read}
-use Rattle.clock_choices.specs.Opens.{reached_in}
+use Rattle.clock_choices.specs.Extending.{reached_in}
 use Rattle.clock_choices.proofs.Countings.{choices_of_known}
 use Rattle.clock_choices.proofs.open_choices.open_with.Goals as goal
 

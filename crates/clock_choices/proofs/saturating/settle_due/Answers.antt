@@ -4,11 +4,12 @@ use Rattle.std.proofs.lemmas.List.Elements.{All-weaker}
 use Rattle.std.proofs.lemmas.Result.{on_ok_weaker}
 use Rattle.clock_choices.specs.declared.runs.Run.{Run}
 use Rattle.clock_choices.specs.Due.{AreNoted}
-use Rattle.clock_choices.specs.Forcing.{unforced, IsRunOver}
+use Rattle.clock_choices.specs.Extending.{reached_in}
+use Rattle.clock_choices.specs.Forcing.{unforced}
 use Rattle.clock_choices.specs.Index.{IsRunThere, runs_of}
 use Rattle.clock_choices.specs.Runs.{Climbs}
 use Rattle.clock_choices.proofs.Growths.{growth_none}
-use Rattle.clock_choices.proofs.Settled.{growth_noted, in_runs_there, read_settled, run_over, runs_choices, unwritten_settled}
+use Rattle.clock_choices.proofs.Settled.{growth_noted, in_runs_there, read_settled, runs_choices, unwritten_settled}
 use Rattle.clock_choices.proofs.saturating.settle_due.Goals as goal
 use Rattle.clock_choices.proofs.saturating.settle_due.Goals.{After-drop-told-2}
 
@@ -19,26 +20,24 @@ is_in_runs-requires c = rw c.runs_of-runs.ensures
 pub settle_read-requires : goal.settle_read-requires
 settle_read-requires c =
     let graph = c.args.graph.now in
-    let read = c.args.read in
-    let runs = runs_of c.args.writers.now read.key in
+    let runs = runs_of c.args.writers.now c.args.read.key in
     let found = (rw c.runs_of-runs.ensures at c.is_in_runs.ensures).0 c.if-not-is_in_runs.false in
     rw c.runs_of-runs.ensures record {
-      runs = All-weaker (IsRunThere graph.gone graph.received) (IsRunOver graph.gone graph.received read) (λ run is. run_over graph.gone graph.received read run is) runs c.requires.runs;
+      runs = c.requires.runs;
       reader = c.requires.reader;
-      writer = in_runs_there graph.gone graph.received runs read.writer c.requires.runs found;
+      writer = in_runs_there graph.gone graph.received runs c.args.read.writer c.requires.runs found;
     }
 
 pub returns-then-not-is_in_runs-clause-growth : goal.returns-then-not-is_in_runs-clause-growth
-returns-then-not-is_in_runs-clause-growth c = growth_none c.args.graph.now.gone c.args.graph.now.received c.args.graph.now.arcs c.args.due.now
+returns-then-not-is_in_runs-clause-growth c = growth_none (reached_in c.args.graph.now) c.args.due.now
 
 pub returns-then-not-is_in_runs-clause-forces : goal.returns-then-not-is_in_runs-clause-forces
 returns-then-not-is_in_runs-clause-forces c parts are is = unforced
 
 pub returns-then-not-is_in_runs-clause-settled : goal.returns-then-not-is_in_runs-clause-settled
 returns-then-not-is_in_runs-clause-settled c = λ parts are.
-    let graph = c.args.graph.now in
     let exact = rw c.runs_of-runs.ensures at c.is_in_runs.ensures in
-    unwritten_settled parts c.args.read (runs_of c.args.writers.now c.args.read.key) graph.gone graph.received graph.arcs c.args.due.now are (λ found. false≢true (sym c.if-not-is_in_runs.true ∙ exact.1 found))
+    unwritten_settled parts c.args.read (runs_of c.args.writers.now c.args.read.key) c.args.due.now are (λ found. false≢true (sym c.if-not-is_in_runs.true ∙ exact.1 found))
 
 -- whoever was told is noted
 noted : (c : After-drop-told-2) → OnOk c.note_all.result (AreNoted c.args.due.now c.note_all.new.self c.settle_read.new.told.items)
@@ -46,9 +45,8 @@ noted c = rw c.deref.ensures.value at c.note_all.ensures
 
 pub returns-clause-growth : goal.returns-clause-growth
 returns-clause-growth c =
-    let graph = c.args.graph.now in
     let growth = rw c.new-told.ensures.items at c.in_ok-settle_read.ensures.growth in
-    on_ok_weaker c.note_all.result (λ is. growth_noted graph.gone graph.received graph.arcs c.settle_read.new.graph.arcs c.settle_read.new.told.items c.args.due.now c.note_all.new.self growth is) (noted c)
+    on_ok_weaker c.note_all.result (λ is. growth_noted growth is) (noted c)
 
 pub returns-clause-forces : goal.returns-clause-forces
 returns-clause-forces c =
@@ -58,6 +56,5 @@ returns-clause-forces c =
 
 pub returns-clause-settled : goal.returns-clause-settled
 returns-clause-settled c =
-    let graph = c.args.graph.now in
     let settled = rw c.runs_of-runs.ensures at c.in_ok-settle_read.ensures.settled in
-    on_ok_weaker c.note_all.result (λ is parts are. read_settled parts c.args.read (runs_of c.args.writers.now c.args.read.key) are graph.gone graph.received c.settle_read.new.graph.arcs c.settle_read.new.told.items c.args.due.now c.note_all.new.self is settled) (noted c)
+    on_ok_weaker c.note_all.result (λ is parts are. read_settled parts c.args.read (runs_of c.args.writers.now c.args.read.key) are c.settle_read.new.told.items c.args.due.now c.note_all.new.self is settled) (noted c)

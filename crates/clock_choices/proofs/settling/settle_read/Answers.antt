@@ -1,60 +1,52 @@
-use Rattle.std.proofs.Common.{◌∙◌, ℕ, List, take, refl, sym, subst, subst₂, arith}
-use Rattle.std.proofs.lemmas.List.{get_or-take, length-take}
+use Rattle.std.proofs.Common.{List, take, sym, subst, All}
 use Rattle.std.proofs.lemmas.List.Elements.{All-nil, All-more, All-weaker}
-use Rattle.txn.specs.declared.transactions.TxnId.{TxnId}
-use Rattle.order_check.specs.Known.{IsChoice}
+use Rattle.session_clocks.specs.Reach.{IsThere}
 use Rattle.clock_choices.specs.declared.runs.Run.{Run}
-use Rattle.clock_choices.specs.Forcing.{Forces, unforced, IsGrowth, AreSettled, choice_of}
-use Rattle.clock_choices.specs.Runs.{IsThird}
-use Rattle.clock_choices.proofs.Growths.{growth_none, growth_both, forces_both, settled_stays}
+use Rattle.clock_choices.specs.Extending.{reached_in}
+use Rattle.clock_choices.specs.Forcing.{AreRunChoices, IsRunSettled, unforced}
+use Rattle.clock_choices.specs.Index.{IsRunThere}
+use Rattle.clock_choices.proofs.Extending.{extends_both, extends_none, on_new}
+use Rattle.clock_choices.proofs.Growths.{growth_none, growth_both, forces_both, run_stays}
+use Rattle.clock_choices.proofs.Settled.{take_all}
 use Rattle.clock_choices.proofs.settling.settle_read.Goals as goal
 
 pub loop-run-init : goal.loop-run-init
 loop-run-init c = record {
-  gone = refl;
-  received = refl;
-  mark = refl;
-  growth = growth_none c.args.graph.now.gone c.args.graph.now.received c.args.graph.now.arcs c.args.told.now.items;
+  extends = extends_none c.args.graph.now;
+  growth = growth_none (reached_in c.args.graph.now) c.args.told.now.items;
   forces = λ parts choices. unforced;
-  settled = All-nil (λ (run : Run). AreSettled c.args.graph.now.gone c.args.graph.now.received c.args.graph.now.arcs c.args.told.now.items c.args.read run.session run.numbers.items);
+  settled = All-nil (IsRunSettled (reached_in c.args.graph.now) c.args.told.now.items c.args.read);
 }
+
+pub settle_run-requires : goal.settle_run-requires
+settle_run-requires c =
+    let extends = (let was = c.loop-run.invariant in was.extends) in
+    let run : Run = c.run-item.result in
+    record {
+      run = on_new (λ gone received. IsRunThere gone received run) extends (subst (λ (one : Run). IsRunThere c.args.graph.now.gone c.args.graph.now.received one) (sym c.run-item.is) (c.requires.runs c.loop-run.run-index run c.loop-run-test.true));
+      reader = on_new (λ gone received. IsThere gone received c.args.read.reader) extends c.requires.reader;
+      writer = on_new (λ gone received. IsThere gone received c.args.read.writer) extends c.requires.writer;
+    }
 
 pub loop-run-preserved : goal.loop-run-preserved
 loop-run-preserved c =
     let was = c.loop-run.invariant in
-    let start = c.args.graph.now in
-    let mid = c.loop-run.graph in
-    let new = c.settle_session.new.graph in
-    let told = c.loop-run.told.items in
-    let then = c.settle_session.new.told.items in
+    let now = c.in_ok-settle_run.ensures in
     let run : Run = c.run-item.result in
-    let growth : IsGrowth start.gone start.received mid.arcs told new.arcs then =
-    subst₂ (λ (gone received : List ℕ). IsGrowth gone received mid.arcs told new.arcs then) was.gone was.received c.in_ok-settle_session.ensures.growth in
-    let settled : AreSettled start.gone start.received new.arcs then c.args.read run.session run.numbers.items =
-    subst (λ (numbers : List ℕ). AreSettled start.gone start.received new.arcs then c.args.read run.session numbers) c.as_slice.ensures.value
-    (subst₂ (λ (gone received : List ℕ). AreSettled gone received new.arcs then c.args.read run.session c.as_slice.result.now) was.gone was.received c.in_ok-settle_session.ensures.settled) in
+    let runs = c.args.runs.now in
+    let index = c.loop-run.run-index in
+    let read = c.args.read in
+    let settled : Run → Type 0 = IsRunSettled (reached_in c.settle_run.new.graph) c.settle_run.new.told.items read in
     record {
-      gone = c.settle_session.ensures.gone ∙ was.gone;
-      received = c.settle_session.ensures.received ∙ was.received;
-      mark = c.settle_session.ensures.mark ∙ was.mark;
-      growth = growth_both start.gone start.received start.arcs mid.arcs new.arcs c.args.told.now.items told then was.growth growth;
-      forces = λ parts choices.
-          let third : (other : TxnId) → IsThird run.session c.as_slice.result.now c.args.read.reader c.args.read.writer other → IsChoice parts (choice_of c.args.read other) =
-          subst (λ (numbers : List ℕ). (other : TxnId) → IsThird run.session numbers c.args.read.reader c.args.read.writer other → IsChoice parts (choice_of c.args.read other)) (sym c.as_slice.ensures.value)
-          (subst (λ (one : Run). (other : TxnId) → IsThird one.session one.numbers.items c.args.read.reader c.args.read.writer other → IsChoice parts (choice_of c.args.read other)) (sym c.run-item.is) (choices c.loop-run.run-index run c.loop-run-test.true)) in
-          forces_both start.gone start.received parts start.arcs c.args.steps.now.items mid.arcs c.loop-run.steps.items new.arcs c.settle_session.new.steps.items (was.forces parts choices)
-          (subst₂ (λ (gone received : List ℕ). Forces parts gone received mid.arcs c.loop-run.steps.items new.arcs c.settle_session.new.steps.items) was.gone was.received (c.in_ok-settle_session.ensures.forces parts third));
-      settled = All-more (λ (one : Run). AreSettled start.gone start.received new.arcs then c.args.read one.session one.numbers.items) c.args.runs.now c.loop-run.run-index run c.loop-run-test.true
-          (All-weaker (λ (one : Run). AreSettled start.gone start.received mid.arcs told c.args.read one.session one.numbers.items) (λ (one : Run). AreSettled start.gone start.received new.arcs then c.args.read one.session one.numbers.items)
-          (λ one is. settled_stays start.gone start.received mid.arcs new.arcs told then c.args.read one.session one.numbers.items growth is) (take c.loop-run.run-index c.args.runs.now) was.settled)
-          (subst (λ (one : Run). AreSettled start.gone start.received new.arcs then c.args.read one.session one.numbers.items) c.run-item.is settled);
+      extends = extends_both was.extends c.settle_run.ensures.extends;
+      growth = growth_both was.growth now.growth;
+      forces = λ parts choices. forces_both was.extends (was.forces parts choices) (now.forces parts (subst (λ (one : Run). AreRunChoices parts read one) (sym c.run-item.is) (choices index run c.loop-run-test.true)));
+      settled = All-more settled runs index run c.loop-run-test.true
+          (All-weaker (IsRunSettled (reached_in c.loop-run.graph) c.loop-run.told.items read) settled (λ one is. run_stays now.growth read one is) (take index runs) was.settled)
+          (subst settled c.run-item.is now.settled);
     }
 
 pub returns-clause-settled : goal.returns-clause-settled
-returns-clause-settled c = λ k d within.
-    let runs = c.args.runs.now in
-    let index = c.loop-run.run-index in
-    let len = length-take index runs in
-    subst (λ (run : Run). AreSettled c.args.graph.now.gone c.args.graph.now.received c.loop-run.graph.arcs c.loop-run.told.items c.args.read run.session run.numbers.items)
-    (get_or-take index runs k d (omega (arith, within, c.loop-run-test.false)))
-    (c.loop-run.invariant.settled k d (omega (arith, within, len, c.loop-run-test.false)))
+returns-clause-settled c =
+    let was = c.loop-run.invariant in
+    subst (λ (some : List Run). All (IsRunSettled (reached_in c.loop-run.graph) c.loop-run.told.items c.args.read) some) (take_all c.args.runs.now c.loop-run.run-index c.loop-run-test.false) was.settled

@@ -1,15 +1,13 @@
-use Rattle.std.proofs.Common.{◌≡◌, take}
+use Rattle.std.proofs.Common.{All, take}
 use Rattle.order_check.specs.declared.remainder.Parts.{Parts}
-use Rattle.session_clocks.specs.Graphs.{last_mark}
-use Rattle.clock_choices.specs.Forcing.{Forces, IsGrowth, AreRunsChoices, AreRunsSettled}
+use Rattle.clock_choices.specs.Extending.{Extends, reached_in}
+use Rattle.clock_choices.specs.Forcing.{AreRunChoices, Forces, IsGrowth, IsRunSettled}
 use Rattle.clock_choices.proofs.settling.settle_read.Given as goal
 
 abbrev pub invariant-loop-run : goal.invariant-loop-run
 invariant-loop-run l = record {
-  gone : l.graph.gone ≡ l.initial.graph.gone;
-  received : l.graph.received ≡ l.initial.graph.received;
-  mark : last_mark l.graph ≡ last_mark l.initial.graph;
-  growth : IsGrowth l.initial.graph.gone l.initial.graph.received l.initial.graph.arcs l.initial.told.items l.graph.arcs l.told.items;
-  forces : (parts : Parts) → AreRunsChoices parts l.read l.runs → Forces parts l.initial.graph.gone l.initial.graph.received l.initial.graph.arcs l.initial.steps.items l.graph.arcs l.steps.items;
-  settled : AreRunsSettled l.initial.graph.gone l.initial.graph.received l.graph.arcs l.told.items l.read (take l.run-index l.runs);
+  extends : Extends l.initial.graph l.graph;
+  growth : IsGrowth (reached_in l.initial.graph) l.initial.told.items (reached_in l.graph) l.told.items;
+  forces : (parts : Parts) → All (AreRunChoices parts l.read) l.runs → Forces parts l.initial.graph l.initial.steps.items l.graph l.steps.items;
+  settled : All (IsRunSettled (reached_in l.graph) l.told.items l.read) (take l.run-index l.runs);
 }

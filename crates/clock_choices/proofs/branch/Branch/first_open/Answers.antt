@@ -8,8 +8,9 @@ use Rattle.order_check.specs.Known.{IsOpen}
 use Rattle.order_check.specs.Search.{IsFirstOpen}
 use Rattle.clock_choices.specs.declared.indexing.Index.{Index}
 use Rattle.clock_choices.specs.BranchState.{BranchState, assumed}
+use Rattle.clock_choices.specs.Extending.{reached_in}
 use Rattle.clock_choices.specs.Indexing.{AreInOrder, IsIndex}
-use Rattle.clock_choices.specs.Opens.{ArePassed, reached_in}
+use Rattle.clock_choices.specs.Opens.{ArePassed}
 use Rattle.clock_choices.specs.Stacks.{stack_onto}
 use Rattle.clock_choices.proofs.Seeing.{at_asked, first_at, seen_by_is}
 use Rattle.clock_choices.proofs.Stacked.{stacked_here}
