@@ -35,12 +35,17 @@ for strict serializability, nothing is checked.
 
   paste -d '\n' SCRIPT REPLIES | cobra_check     checks the replies in one file to the script in another
 
-The exit status is 0 where all replies are right; 3 where one is wrong; 4 where none is, but some say
-that memory was wanting, which isn't checked, or nothing of the script is; 1 where a device failed or
-memory was wanting here, which standard error then tells; 2 for other arguments.
+Each yes and each no is checked. It isn't checked that the search that the line asked for would have
+found it, or that a search that gave up had used its budget.
 
-Each yes and each no is checked, but not that the search that the line asked for would have found it;
-nor is it checked of a spent report that the budget didn't reach.
+The exit status:
+
+  0   all replies are right
+  1   a device failed, or memory ran out here; standard error says which
+  2   other arguments were given
+  3   a reply is wrong
+  4   no reply is wrong, but some weren't checked: replies that say that memory ran out, and scripts
+      that resume another one or ask for strict serializability
 
 docs/FORMATS.md describes what it reads and writes.
 "#;
