@@ -2,10 +2,16 @@
 #![tactic(auto)]
 
 #[cfg(test)]
+mod bad_lines;
+#[cfg(test)]
+mod devices;
+#[cfg(test)]
 mod held;
 #[cfg(test)]
 mod lines;
 #[cfg(test)]
 mod reply_texts;
+#[cfg(test)]
+mod said;
 #[cfg(test)]
 mod scripts;

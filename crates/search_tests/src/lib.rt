@@ -2,6 +2,8 @@
 #![tactic(auto)]
 
 #[cfg(test)]
+mod deep_trees;
+#[cfg(test)]
 mod fronts;
 #[cfg(test)]
 mod many_sessions;

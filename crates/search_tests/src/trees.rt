@@ -1,6 +1,6 @@
 //! Trees that refute, forged ones, and deep ones.
 use order_check::Parts;
-use refutation::{Leaf, Tree, check, join, shortened};
+use refutation::{Leaf, Tree, check, join};
 use std::alloc::Global;
 use std::process::Abort;
 use std::test::*;
@@ -9,13 +9,13 @@ use txn::Source::{By, Init};
 use txn::{Arc, Choice, ForceStep, NoMemory, Sequence, Side, TxnId};
 
 /// 0.0 reads key 5 from the initial state and writes key 6; 1.0 reads key 6 from it and writes key 5.
-const WRITE_SKEW: Table = Table {
+pub(crate) const WRITE_SKEW: Table = Table {
     remain: &[&[(&[(5, Init)], &[6])], &[(&[(6, Init)], &[5])]],
     ..EMPTY
 };
 
 /// 0.0 writes key 5; 0.1 and 1.0 both read that and write the key.
-const LOST_UPDATE: Table = Table {
+pub(crate) const LOST_UPDATE: Table = Table {
     remain: &[
         &[(&[], &[5]), (&[(5, By(ID_0_0))], &[5])],
         &[(&[(5, By(ID_0_0))], &[5])],
@@ -36,7 +36,7 @@ const READER: TxnId = TxnId {
     number: 2,
 };
 
-const SKEWED: [Arc; 2] = [
+pub(crate) const SKEWED: [Arc; 2] = [
     Arc::Base {
         key: 5,
         from: ID_0_0,
@@ -96,7 +96,7 @@ fn forged() -> &'static [&'static [Arc]] {
     &FORGED
 }
 
-fn cycle(alloc: Global, arcs: &[Arc]) -> Result<Tree, NoMemory> {
+pub(crate) fn cycle(alloc: Global, arcs: &[Arc]) -> Result<Tree, NoMemory> {
     Ok(Tree::Close(Leaf::Cycle(Sequence::new(arcs.to_vec(alloc)?))))
 }
 
@@ -114,7 +114,7 @@ fn is_judged(
 }
 
 /// Stops unless the tree, where memory sufficed to make it, refutes the table's parts as wanted.
-fn wants(
+pub(crate) fn wants(
     rt: &impl Abort,
     alloc: Global,
     table: &Table,
@@ -182,14 +182,14 @@ fn bad_reads_close(rt: HostRuntime) -> Result<(), Fail> {
 }
 
 /// The two readers of the lost update, each with the other as the other writer.
-const EARLIER: Choice = Choice {
+pub(crate) const EARLIER: Choice = Choice {
     reader: ID_0_1,
     key: 5,
     writer: ID_0_0,
     other: ID_1_0,
 };
 
-const LATER: Choice = Choice {
+pub(crate) const LATER: Choice = Choice {
     reader: ID_1_0,
     key: 5,
     writer: ID_0_0,
@@ -197,7 +197,7 @@ const LATER: Choice = Choice {
 };
 
 /// The cycle that closes where the other writer stands before the writer that a choice's reader reads from.
-fn before_writer(choice: Choice) -> [Arc; 2] {
+pub(crate) fn before_writer(choice: Choice) -> [Arc; 2] {
     [
         Arc::Taken {
             from: choice.other,
@@ -211,7 +211,7 @@ fn before_writer(choice: Choice) -> [Arc; 2] {
     ]
 }
 
-const BOTH_AFTER: [Arc; 2] = [
+pub(crate) const BOTH_AFTER: [Arc; 2] = [
     Arc::Taken {
         from: ID_0_1,
         to: ID_1_0,
@@ -222,7 +222,7 @@ const BOTH_AFTER: [Arc; 2] = [
     },
 ];
 
-fn step(alloc: Global, choice: Choice, side: Side) -> Result<ForceStep, NoMemory> {
+pub(crate) fn step(alloc: Global, choice: Choice, side: Side) -> Result<ForceStep, NoMemory> {
     Ok(ForceStep {
         choice,
         side,
@@ -230,7 +230,7 @@ fn step(alloc: Global, choice: Choice, side: Side) -> Result<ForceStep, NoMemory
     })
 }
 
-fn forced(alloc: Global, side: Side) -> Result<Tree, NoMemory> {
+pub(crate) fn forced(alloc: Global, side: Side) -> Result<Tree, NoMemory> {
     let mut steps = Sequence::new(Vec::new(alloc));
     steps.push(step(alloc, EARLIER, side)?)?;
     steps.push(step(alloc, LATER, side)?)?;
@@ -249,7 +249,7 @@ fn forced_sides_close_the_lost_update(rt: HostRuntime) -> Result<(), Fail> {
 }
 
 /// The leaves below the splits of both choices, by the cube's number.
-fn leaves(alloc: Global) -> Result<Vec<Tree>, NoMemory> {
+pub(crate) fn leaves(alloc: Global) -> Result<Vec<Tree>, NoMemory> {
     let mut trees = Vec::new(alloc);
     trees.push(cycle(alloc, &before_writer(EARLIER))?)?;
     trees.push(cycle(alloc, &before_writer(EARLIER))?)?;
@@ -271,142 +271,5 @@ fn joined_leaves_close_the_lost_update(rt: HostRuntime) -> Result<(), Fail> {
     wants(&rt, alloc, &LOST_UPDATE, tree, true)?;
     let tree = joined(&rt, alloc, [LATER, EARLIER]);
     wants(&rt, alloc, &LOST_UPDATE, tree, false)?;
-    Ok(())
-}
-
-/// The cycle of the write skew below so many nodes without steps.
-fn under(alloc: Global, nodes: u64) -> Result<Tree, NoMemory> {
-    let mut tree = cycle(alloc, &SKEWED)?;
-    for _ in 0..nodes {
-        tree = Tree::Force {
-            steps: Sequence::new(Vec::new(alloc)),
-            rest: Box::new(alloc, tree)?,
-        };
-    }
-    Ok(tree)
-}
-
-#[test]
-fn a_tree_is_at_most_4096_deep(rt: HostRuntime) -> Result<(), Fail> {
-    let alloc = rt.alloc();
-    wants(&rt, alloc, &WRITE_SKEW, under(alloc, 4096), true)?;
-    wants(&rt, alloc, &WRITE_SKEW, under(alloc, 4097), false)?;
-    Ok(())
-}
-
-/// So many splits below one another, turn by turn on the first side and on the second.
-fn zigzag(alloc: Global, splits: u64) -> Result<Tree, NoMemory> {
-    let mut tree = cycle(alloc, &SKEWED)?;
-    for at in 0..splits {
-        let other = Box::new(alloc, Tree::Close(Leaf::Gone(ID_0_0, 5)))?;
-        let below = Box::new(alloc, tree)?;
-        let choice = EARLIER;
-        let (first, second) = if at % 2 == 0 {
-            (below, other)
-        } else {
-            (other, below)
-        };
-        tree = Tree::Split {
-            choice,
-            first,
-            second,
-        };
-    }
-    Ok(tree)
-}
-
-#[test]
-fn very_deep_trees_are_judged_and_let_go(rt: HostRuntime) -> Result<(), Fail> {
-    let alloc = rt.alloc();
-    wants(&rt, alloc, &LOST_UPDATE, zigzag(alloc, 100_000), false)?;
-    wants(&rt, alloc, &LOST_UPDATE, under(alloc, 100_000), false)?;
-    Ok(())
-}
-
-/// How many steps, splits and leaves a tree has that isn't deep.
-fn items_of(tree: &Tree) -> u64 {
-    match tree {
-        Tree::Close(_) => 1,
-        Tree::Force { steps, rest } => items_of(rest).wrapping_add(steps.len() as u64),
-        Tree::Split {
-            choice: _,
-            first,
-            second,
-        } => items_of(first)
-            .wrapping_add(items_of(second))
-            .wrapping_add(1),
-    }
-}
-
-fn halves(alloc: Global, choice: Choice, first: Tree, second: Tree) -> Result<Tree, NoMemory> {
-    Ok(Tree::Split {
-        choice,
-        first: Box::new(alloc, first)?,
-        second: Box::new(alloc, second)?,
-    })
-}
-
-/// So many splits on one choice, each in the second half of the one above, over a split on the later choice.
-fn ladder(alloc: Global, splits: u64) -> Result<Tree, NoMemory> {
-    let later = cycle(alloc, &before_writer(LATER))?;
-    let mut tree = halves(alloc, LATER, later, cycle(alloc, &BOTH_AFTER)?)?;
-    for _ in 0..splits {
-        let first = cycle(alloc, &before_writer(EARLIER))?;
-        tree = halves(alloc, EARLIER, first, tree)?;
-    }
-    Ok(tree)
-}
-
-/// The forced sides of the lost update, the first one twice.
-fn forced_twice(alloc: Global) -> Result<Tree, NoMemory> {
-    let mut steps = Sequence::new(Vec::new(alloc));
-    steps.push(step(alloc, EARLIER, Side::Second)?)?;
-    Ok(Tree::Force {
-        steps,
-        rest: Box::new(alloc, forced(alloc, Side::Second)?)?,
-    })
-}
-
-/// A split of which neither half uses its side.
-fn idle_split(alloc: Global) -> Result<Tree, NoMemory> {
-    let first = forced(alloc, Side::Second)?;
-    halves(alloc, EARLIER, first, forced_twice(alloc)?)
-}
-
-/// Stops unless the tree refutes the parts, and so many items of it are left once it is shortened.
-fn is_shortened(
-    rt: &impl Abort,
-    alloc: Global,
-    parts: &Parts,
-    tree: Tree,
-    wanted: u64,
-) -> Result<(), NoMemory> {
-    assert!(rt; parts.is_good());
-    let refutes = check(alloc, parts, &tree)?;
-    assert!(rt; refutes);
-    let short = shortened(alloc, parts, tree)?;
-    assert!(rt; items_of(&short) == wanted);
-    Ok(())
-}
-
-fn shortens(
-    rt: &impl Abort,
-    alloc: Global,
-    table: &Table,
-    tree: Result<Tree, NoMemory>,
-    wanted: u64,
-) -> Result<(), NoMemory> {
-    let tree = tree?;
-    let parts = table.parts(alloc)?;
-    is_shortened(rt, alloc, &parts, tree, wanted)
-}
-
-#[test]
-fn what_plays_no_part_is_left_out(rt: HostRuntime) -> Result<(), Fail> {
-    let alloc = rt.alloc();
-    shortens(&rt, alloc, &WRITE_SKEW, under(alloc, 4096), 1)?;
-    shortens(&rt, alloc, &LOST_UPDATE, forced_twice(alloc), 3)?;
-    shortens(&rt, alloc, &LOST_UPDATE, idle_split(alloc), 3)?;
-    shortens(&rt, alloc, &LOST_UPDATE, ladder(alloc, 4095), 5)?;
     Ok(())
 }

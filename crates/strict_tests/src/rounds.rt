@@ -1,6 +1,7 @@
 //! Scripts over small histories with times, beside a trial of all their orders.
 ghost use Rattle.std.specs.Prelude.{◌<◌};
 
+use crate::asked::{Asked, asked_by};
 use cobra::{Failure, Means, MemorySink, MemorySource, Pace, Solvers, serve};
 use order_check::{Base, Kind, LastWriters, Parts, explains};
 use polygraph::Single;
@@ -10,7 +11,7 @@ use std::sync::Wait;
 use std::test::Fail;
 use std::thread;
 use std::thread::Threads;
-use strict_histories::{Span, TimedTxn, first_wrong_time};
+use strict_histories::{Span, TimedTxn};
 use txn::Source::{self, By, Init};
 use txn::{NoMemory, Sequence, Txn, TxnId};
 
@@ -124,8 +125,8 @@ fn is_missing(read: &(u64, Source)) -> bool {
 
 /// Four transactions with their times.
 #[derive(Drop)]
-struct Made {
-    txns: Vec<TimedTxn>,
+pub(crate) struct Made {
+    pub(crate) txns: Vec<TimedTxn>,
 }
 
 fn made_by(alloc: Global, dice: &mut Dice) -> Result<Made, NoMemory> {
@@ -154,7 +155,11 @@ fn has_missing(txns: &[TimedTxn]) -> bool {
 }
 
 /// The transactions of a session, in order of number.
-fn session_of(alloc: Global, made: &Made, session: u8) -> Result<Vec<TimedTxn>, NoMemory> {
+pub(crate) fn session_of(
+    alloc: Global,
+    made: &Made,
+    session: u8,
+) -> Result<Vec<TimedTxn>, NoMemory> {
     let mut own = Vec::new(alloc);
     for (id, timed) in IDS.iter().zip(made.txns.iter()) {
         if id.session == session {
@@ -240,109 +245,12 @@ fn tried(rt: &impl Abort, alloc: Global, made: &Made) -> Result<Kind, Fail> {
     Ok(Kind::Violated)
 }
 
-/// Writes a comma, unless it is the first.
-fn push_comma(script: &mut String, place: usize) -> Result<(), NoMemory> {
-    if place > 0 {
-        script.push_str(",")
-    } else {
-        Ok(())
-    }
-}
-
-fn push_read(script: &mut String, alloc: Global, read: (u64, Source)) -> Result<(), NoMemory> {
-    let key = read.0;
-    let text = match read.1 {
-        Init => format!(in alloc; "[{key},\"init\"]")?,
-        By(id) => {
-            let (session, number) = (id.session, id.number);
-            format!(in alloc; "[{key},{session},{number}]")?
-        }
-    };
-    script.push_str(text.as_str())
-}
-
-fn push_txn(script: &mut String, alloc: Global, txn: &Txn) -> Result<(), NoMemory> {
-    script.push_str("[[")?;
-    for (place, read) in txn.reads.as_slice().iter().enumerate() {
-        push_comma(script, place)?;
-        push_read(script, alloc, *read)?;
-    }
-    script.push_str("],[")?;
-    for (place, key) in txn.writes.as_slice().iter().enumerate() {
-        push_comma(script, place)?;
-        script.push_str(format!(in alloc; "{key}")?.as_str())?;
-    }
-    script.push_str("]]")
-}
-
-/// Writes when they began, or when they ended, as lines tell it.
-fn push_times(
-    script: &mut String,
-    alloc: Global,
-    timed: &[TimedTxn],
-    ended: bool,
-) -> Result<(), NoMemory> {
-    script.push_str(",[")?;
-    for (place, one) in timed.iter().enumerate() {
-        push_comma(script, place)?;
-        let time = if ended {
-            one.span.ended.unwrap_or(u64::MAX)
-        } else {
-            one.span.began.unwrap_or(0)
-        };
-        script.push_str(format!(in alloc; "{time}")?.as_str())?;
-    }
-    script.push_str("]")
-}
-
-/// Writes the offer of a session's transactions with their times.
-fn push_offer(
-    script: &mut String,
-    alloc: Global,
-    session: u8,
-    timed: &[TimedTxn],
-) -> Result<(), NoMemory> {
-    script.push_str(format!(in alloc; "[\"offer\",{session},0,[")?.as_str())?;
-    for (place, one) in timed.iter().enumerate() {
-        push_comma(script, place)?;
-        push_txn(script, alloc, &one.txn)?;
-    }
-    script.push_str("]")?;
-    push_times(script, alloc, timed, false)?;
-    push_times(script, alloc, timed, true)?;
-    script.push_str("]\n")
-}
-
-/// A script over a history, and whether each offer can have its times: one is refused exactly if it can't.
-#[derive(Drop)]
-struct Asked {
-    script: String,
-    replies: String,
-    is_taken: bool,
-}
-
-fn asked_by(alloc: Global, made: &Made) -> Result<Asked, NoMemory> {
-    let mut asked = Asked {
-        script: String::from_str(alloc, "[\"open\",3,16,2,\"strict\"]\n")?,
-        replies: String::from_str(alloc, "[\"ok\"]\n")?,
-        is_taken: true,
-    };
-    for session in 0..3 {
-        let own = session_of(alloc, made, session)?;
-        push_offer(&mut asked.script, alloc, session, own.as_slice())?;
-        if first_wrong_time(own.as_slice()).is_none() {
-            asked.replies.push_str("[\"ok\"]\n")?;
-        } else {
-            asked.replies.push_str("[\"no\",3,\"BadTxn\"]\n")?;
-            asked.is_taken = false;
-        }
-    }
-    asked.script.push_str("[\"round\",4096,0,1]\n")?;
-    Ok(asked)
-}
-
 /// What is replied to the script.
-fn replies<R: Threads + Wait>(rt: &R, alloc: Global, script: &str) -> Result<Vec<u8>, Failure> {
+fn replies<R: Threads + Wait>(
+    rt: &R,
+    alloc: Global,
+    script: &str,
+) -> Result<Vec<u8>, Failure> {
     let mut source = MemorySource {
         bytes: script.as_bytes(),
         pace: Pace::new(4096, 0),
