@@ -47,11 +47,13 @@ ELSEWHERE = {
 # Words of the contracts on which programs and reviewers rely: docs/DEFINITIONS.md has to say what they mean.
 PROMISED = {
     "the headline": "EachReportIsTrue AreTrueReplies Accepted accepted_after TellsTrueOf reported_on IsVerdictWhole"
-    " ExplainsWhole HasPendingWhole History effects IsKept StandsForAccepted",
+    " ExplainsWhole HasPendingWhole History effects IsKept StandsForAccepted IsKeptBehind KeepsRest RemainsBehind"
+    " EndsOrder MovesBehind Origin BeginsWith ViolationsAreFinal",
+    "strict scripts": "EachStrictReportIsTrue timed_after TellsStrictly IsStrictOrder IsStrictVerdict EndedBefore",
     "what serve writes": "IsOutput StopsForMemory StopsReading StopsWriting IsAnswered Answers AnswersOpen AnswersBeside"
     " Finishes IsCommand command_of line_of lines asked_by",
     "what cobra_check says": "IsAllRight IsRightSoFar Checks IsRightReply IsUnchecked IsOwedReport Owes IsWrongReply"
-    " StopsAtWrong FindsAll told_of TellsFirst HasFault IsUnshown IsShownIn",
+    " StopsAtWrong FindsAll told_of TellsFirst HasFault IsUnshown IsShownIn ChecksTrue IsKeptIn StandsForReceived",
     "steps and refusals": "StepsTo Legal Holds FragmentFault IntakeFault IsOfferRefusal IsCloseRefusal IsBeginRefusal"
     " IsFinishRefusal IsTruncateRefusal IsRebuildRefusal number_of",
     "cuts": "StandsFor KeepsStandsFor IsSettled IsLastSettled IsFound IsCutAt IsCutOf IsKeptFront IsTruncated Known",
@@ -63,7 +65,8 @@ PROMISED = {
     " IsGoneRead depth_of IsJoin",
     "searches": "Scans IsPicked IsPlain IsSpent IsLawful MayAnswer",
     "snapshot isolation": "IsSnapshotOrder KeepsSnapshotIsolation IsSnapshotVerdict SeesLastCommit AnswersIsolated"
-    " Opens TellsIsolation IsAskedFault OfferedFault LegalIsolation isolated_of",
+    " Opens TellsIsolation IsAskedFault OfferedFault LegalIsolation isolated_of IsKeptSplit ToldBehind TellBehind"
+    " KeepsBehind",
 }
 
 

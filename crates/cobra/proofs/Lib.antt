@@ -1,12 +1,15 @@
 pub mod AskedLines
 pub mod BesideRounds
 pub mod Checkpoints
+pub mod FinalVerdicts
 pub mod GivenOut
 pub mod GivenSizes
+pub mod GrownHistories
 pub mod HandedWriters
 pub mod HeldCommands
 pub mod IsolatedAnswers
 pub mod IsolatedCheckpoints
+pub mod KeptRests
 pub mod LightCommands
 pub mod LastTold
 pub mod Limits

@@ -70,11 +70,12 @@ use Rattle.engine_pasts.specs.Laws.{FreshEnginesHoldBehind, HalvesAreToldBehind,
 use Rattle.strict_offers.specs.Offers.{OfferedState}
 use Rattle.cobra.specs.Audits.{AuditState}
 use Rattle.cobra.specs.HandOver.{handed_parts}
+use Rattle.cobra.specs.KeptLaws.{HeldIsKept}
 use Rattle.cobra.specs.Outputs.{RepliesAll}
 use Rattle.cobra.specs.Saving.{saved_told, fragment_told}
 use Rattle.cobra.specs.Scripts.{IsBadLine, IsTakenIn, Goes, IsStep, EndsRound, IsRound, AnswersOpen, AnswersBeside, AnswersIsolated, AnswersStrict, GoesOn, IsCollected, state_told, AnswersFirst, BeginsAnew, AnswersResuming, AnswersHanding, HandsMarks, HandsOffer, EndsHandOver, Answers, TakesHalves, TakesMarks, TakesOver, opened_engine, opened_state, stage_after}
 use Rattle.cobra.specs.StepReplies.{claim_of, certified, reply_of}
-use Rattle.cobra.specs.TrueReports.{Accepted, Origin, accepted_more, accepted_after, moved, nothing_accepted, reported_on, state_of, TellsTrueOf, TellsIsolation, MovesTxns, MovesHalves, IsKept, IsKeptSplit, IsTrueTold, BeginsWith, AreTrueReplies, EachReportIsTrue}
+use Rattle.cobra.specs.TrueReports.{Accepted, Origin, accepted_more, accepted_after, moved, nothing_accepted, reported_on, state_of, TellsTrueOf, TellsIsolation, MovesTxns, MovesHalves, IsKept, IsKeptSplit, KeepsRest, IsTrueTold, BeginsWith, AreTrueReplies, EachReportIsTrue}
 use Rattle.cobra.specs.declared.handing.Handing.{Handing}
 use Rattle.cobra.specs.declared.stages.Stage.{Stage}
 use Rattle.cobra.specs.declared.stages.Stage.TheVariants as stage
@@ -484,6 +485,7 @@ pub record Laws : Type 0 where
   pub fresh_behind : FreshEnginesHoldBehind
   pub parts_behind : PartsHoldBehind
   pub halves : HalvesAreToldBehind
+  pub rest : HeldIsKept
 
 -- what was accepted, split
 abbrev split_accepted : Accepted → Accepted
@@ -832,15 +834,26 @@ fits_still (stage.Resuming sessions limit opening) (Some accepted) fits = absurd
 fits_still (stage.Handing handed opening) (Some accepted) fits = absurd fits
 
 -- what is kept stands behind what is gone
-kept_open : Laws → (old : AuditState) (accepted : Accepted) → StandsSplit old.engine accepted → IfSome accepted.past (λ gone. IsKeptSplit gone old.engine accepted.whole accepted.asked)
+kept_open : Laws → (old : AuditState) (accepted : Accepted) → Stands old.engine accepted → IfSome accepted.past (λ gone. KeepsRest gone old.engine accepted.whole accepted.asked)
 kept_open laws old accepted stands =
+    some_map accepted.past (λ gone. HoldsBehind gone old.engine accepted.whole accepted.asked) (λ gone. KeepsRest gone old.engine accepted.whole accepted.asked)
+    (λ gone holds. laws.rest gone old.engine accepted.whole accepted.asked stands.holds.parts holds) stands.behind
+
+kept_split : Laws → (old : AuditState) (accepted : Accepted) → StandsSplit old.engine accepted → IfSome accepted.past (λ gone. IsKeptSplit gone old.engine accepted.whole accepted.asked)
+kept_split laws old accepted stands =
     some_map accepted.past (λ gone. HoldsBehind gone old.engine (split_history accepted.whole) (split_history accepted.asked)) (λ gone. IsKeptSplit gone old.engine accepted.whole accepted.asked)
-    (λ gone holds. (stands.holds.whole, stands.holds.asked, holds, laws.halves gone old.engine accepted.whole accepted.asked holds)) stands.behind
+    (λ gone holds. (
+      stands.holds.whole,
+      stands.holds.asked,
+      laws.rest gone old.engine (split_history accepted.whole) (split_history accepted.asked) stands.holds.holds.parts holds,
+      laws.halves gone old.engine accepted.whole accepted.asked holds,
+    ))
+    stands.behind
 
 are_kept : Laws → (old : Stage) (accepted : Option Accepted) → Fits old accepted → IsKept old accepted
 are_kept laws old None fits = tt
-are_kept laws (stage.Open audit (Ordered version)) (Some accepted) fits = (fits.holds, fits.behind)
-are_kept laws (stage.Open audit (Isolated version)) (Some accepted) fits = (fits.holds, kept_open laws audit accepted fits)
+are_kept laws (stage.Open audit (Ordered version)) (Some accepted) fits = (fits.holds, kept_open laws audit accepted fits)
+are_kept laws (stage.Open audit (Isolated version)) (Some accepted) fits = (fits.holds, kept_split laws audit accepted fits)
 are_kept laws stage.Nothing (Some accepted) fits = absurd fits
 are_kept laws (stage.Strict offered version) (Some accepted) fits = absurd fits
 are_kept laws (stage.Resuming sessions limit opening) (Some accepted) fits = absurd fits

@@ -1,7 +1,9 @@
 pub mod Audits
 pub mod Checkpoints
+pub mod Final
 pub mod HandOver
 pub mod Held
+pub mod KeptLaws
 pub mod LastTold
 pub mod Limits
 pub mod Outputs

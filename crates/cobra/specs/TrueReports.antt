@@ -6,6 +6,9 @@ use Rattle.txn.specs.declared.transactions.TxnId.{TxnId}
 use Rattle.txn.specs.History.{History}
 use Rattle.logged_fragments.specs.Effects.{effects}
 use Rattle.order_check.specs.declared.remainder.Kind.TheVariants as kinds
+use Rattle.order_check.specs.declared.remainder.Parts.{Parts}
+use Rattle.order_check.specs.Cutting.{CanBeApplied}
+use Rattle.order_check.specs.Settled.{IsCutOf}
 use Rattle.order_check.specs.StandsFor.{StandsFor, history_after, with_fragment}
 use Rattle.order_check.specs.Whole.{ExplainsWhole}
 use Rattle.log_text.specs.declared.commands.Command.{Command}
@@ -21,6 +24,7 @@ use Rattle.round_state.specs.Legal.{State, IsTrueOf}
 use Rattle.round_state.specs.Opening.{no_history}
 use Rattle.round_state.specs.Runs.{Holds}
 use Rattle.round_state.specs.Steps.{arrival_of}
+use Rattle.settle.specs.declared.cuts.Cut.{Cut}
 use Rattle.gone_orders.specs.Behind.{RemainsBehind}
 use Rattle.isolation_histories.specs.Halves.{commit_half, event_at}
 use Rattle.isolation_histories.specs.Split.{split_history, HistoryCanBeSplit}
@@ -28,7 +32,6 @@ use Rattle.isolation_rests.specs.Behind.{KeepsBehind}
 use Rattle.isolation_scripts.specs.Legal.{HoldsSplit, IsIsolationOf}
 use Rattle.whole_orders.specs.Isolated.{EndsSnapshotOrder}
 use Rattle.whole_orders.specs.Left.{EndsOrder, IsLeftOf}
-use Rattle.engine_pasts.specs.Holding.{HoldsBehind}
 use Rattle.engine_pasts.specs.Laws.{ToldBehind}
 use Rattle.cobra.specs.HandOver.{handed_parts}
 use Rattle.cobra.specs.Outputs.{Asks, IsOutputOf, names_at}
@@ -120,16 +123,30 @@ StandsForAccepted (stage.Open audit (Ordered version)) accepted = Holds audit.en
 StandsForAccepted (stage.Open audit (Isolated version)) accepted = HoldsSplit audit.engine (state_of audit.engine accepted)
 StandsForAccepted other accepted = ⊥
 
--- Where transactions are split: each of those accepted can be; the halves that an engine holds remain of theirs, behind the halves that are gone, in
+-- A cut takes out what comes next of a whole history behind what is gone: it can be made of these parts, and what it leaves stands for the history, and
+-- remains behind what is gone and what the cut takes out, in some order.
+abbrev pub TakesNext : List TxnId → Parts → History → Cut → Type 0
+TakesNext gone parts whole cut =
+    CanBeApplied parts cut.gone cut.last
+    × ((new : Parts) → IsCutOf parts new cut.gone cut.last → StandsFor new whole × (ahead : List TxnId) × ((id : TxnId) → Contains ahead id ↔ Contains cut.gone id) × RemainsBehind (gone ++ ahead) new whole)
+
+-- What an engine keeps remains of a whole history, behind what is gone, in this order. So does its snapshot, of what had been received when the round
+-- began. The cut that it holds takes out what comes next.
+pub record KeepsRest (gone : List TxnId) (engine : EngineState) (whole begun : History) : Type 0 where
+  pub parts : RemainsBehind gone engine.parts whole
+  pub asked : (parts : Parts) → engine.asked ≡ Some parts → RemainsBehind gone parts begun
+  pub held : (cut : Cut) → engine.held ≡ Some cut → TakesNext gone engine.parts whole cut
+
+-- Where transactions are split: each of those accepted can be; the halves that an engine keeps remain of theirs, behind the halves that are gone, in
 -- this order; and they tell of the transactions, behind the begins and commits that are gone, exactly.
 abbrev pub IsKeptSplit : List TxnId → EngineState → History → History → Type 0
 IsKeptSplit gone engine whole asked =
-    HistoryCanBeSplit whole × HistoryCanBeSplit asked × HoldsBehind gone engine (split_history whole) (split_history asked) × ToldBehind gone engine whole asked
+    HistoryCanBeSplit whole × HistoryCanBeSplit asked × KeepsRest gone engine (split_history whole) (split_history asked) × ToldBehind gone engine whole asked
 
--- What the engine of a script holds remains of what was accepted, behind what is gone, in this order, split or not: so what a show, a save and a cut
+-- What the engine of a script keeps remains of what was accepted, behind what is gone, in this order, split or not: so what a show, a save and a cut
 -- tell of is that. The open round's snapshot is one of what was accepted when the round began, behind the same.
 abbrev pub IsKeptBehind : Stage → List TxnId → Accepted → Type 0
-IsKeptBehind (stage.Open audit (Ordered version)) gone accepted = HoldsBehind gone audit.engine accepted.whole accepted.asked
+IsKeptBehind (stage.Open audit (Ordered version)) gone accepted = KeepsRest gone audit.engine accepted.whole accepted.asked
 IsKeptBehind (stage.Open audit (Isolated version)) gone accepted = IsKeptSplit gone audit.engine accepted.whole accepted.asked
 IsKeptBehind other gone accepted = ⊥
 

@@ -1,4 +1,6 @@
 //! Laws of scripts. The functions do nothing.
+ghost use Rattle.cobra.specs.Final.{ViolationsAreFinal};
+ghost use Rattle.cobra.specs.KeptLaws.{HeldIsKept};
 ghost use Rattle.cobra.specs.Limits.{BoundsStay};
 ghost use Rattle.cobra.specs.SplitStages.{IsolatedStays};
 ghost use Rattle.cobra.specs.StrictReports.{EachStrictReportIsTrue};
@@ -8,11 +10,13 @@ use engine_pasts::{
     fresh_engines_hold_behind, halves_are_told_behind, parts_hold_behind,
     reported_orders_stand_behind, steps_hold_behind,
 };
+use gone_orders::cuts_move_on;
 use isolation_histories::{orders_isolate, split_doubles_counts, split_keeps_verdict};
 use isolation_scripts::{
     committed_are_of_commits, fresh_engines_are_split, halved_counts_are_whole, nothing_is_split,
     split_engines_stay, split_steps_are_legal, split_steps_follow,
 };
+use order_check::{cut_keeps_stands_for, cuts_of_fronts_fit, settled_stays_settled};
 use strict_offers::offers_stay_good;
 use strict_rounds::right_reports_are_strict;
 use whole_orders::{
@@ -43,6 +47,7 @@ pub fn each_report_is_true()
     steps_hold_behind();
     reported_orders_stand_behind();
     halves_are_told_behind();
+    held_is_kept();
 }
 
 /// Whatever `serve` may leave, each report in it that is asked for strict serializability is true of everything that the script's lines had offered
@@ -54,6 +59,22 @@ pub fn each_strict_report_is_true()
     offers_stay_good();
     right_reports_are_strict();
 }
+
+/// An engine that stands behind what is gone keeps what remains of the whole history, and the cut that it holds takes out what comes next.
+pub fn held_is_kept()
+    ensures { HeldIsKept }
+{
+    // Laws that the proof cites. They do nothing when they run.
+    settled_stays_settled();
+    cuts_of_fronts_fit();
+    cut_keeps_stands_for();
+    cuts_move_on();
+}
+
+/// What a script has accepted, once it breaks the promise that the script asks for, breaks it still, whatever comes.
+pub fn violations_are_final()
+    ensures { ViolationsAreFinal }
+{}
 
 /// A script keeps the bounds of its version: how many sessions there may be, and how many transactions may remain.
 pub fn bounds_stay()

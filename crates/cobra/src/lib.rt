@@ -27,7 +27,10 @@ pub use byte_lines::{
     MemorySource, Next, Pace, ReaderSource, StandardInput, StandardOutput, WriterSink, write_all,
 };
 pub use handing::Handing;
-pub use laws::{bounds_stay, each_report_is_true, each_strict_report_is_true, isolated_stays};
+pub use laws::{
+    bounds_stay, each_report_is_true, each_strict_report_is_true, held_is_kept, isolated_stays,
+    violations_are_final,
+};
 pub use means::Means;
 pub use programs::{Asked, asked_in, asked_of, exit_of, tell};
 pub use replies::{claim_of, cut_of, reply_of, report_of};

@@ -27,8 +27,9 @@ use Rattle.isolation_histories.specs.Split.{split_history}
 use Rattle.isolation_scripts.specs.Legal.{HasReceived}
 use Rattle.whole_orders.specs.Left.{IsLeftOf, WasFoundIn}
 use Rattle.engine_pasts.specs.Holding.{EventsStandBehind, HoldsBehind, StandsBehind}
-use Rattle.engine_pasts.specs.Laws.{ReportedEventsStandBehind, ReportedOrdersStandBehind, StepsHoldBehind}
+use Rattle.engine_pasts.specs.Laws.{ReportedEventsStandBehind, ReportedOrdersStandBehind}
 use Rattle.report_checking.specs.Owing.{IsEarned}
+use Rattle.report_checking.proofs.Standing.{StandsBoth, StepsStandBoth, finished}
 
 -- ---- an answer earns what is judged of it, but for one that is spent
 
@@ -84,16 +85,19 @@ holds_still gone old new whole begun parts none held holds = record {
   asked = λ p e. absurd (none-some p (sym none ∙ e));
 }
 
-pub earned_stays : StepsHoldBehind → (gone : List TxnId) (old new : EngineState) (whole begun : History) (report : Report) → IsEarned old report new → HoldsBehind gone old whole begun → HoldsBehind gone new whole begun
-earned_stays steps gone old new whole begun report earned holds = ⊎_elim judged spent (judged_or_spent old new report earned)
+pub earned_stays : StepsStandBoth → (gone : List TxnId) (old new : EngineState) (whole begun : History) (report : Report) → IsEarned old report new → StandsBoth gone old whole begun → StandsBoth gone new whole begun
+earned_stays steps gone old new whole begun report earned stands = ⊎_elim judged spent (judged_or_spent old new report earned)
   where
-    judged : Judged old new report → HoldsBehind gone new whole begun
+    judged : Judged old new report → StandsBoth gone new whole begun
     judged is =
-        let behind = steps gone old new whole begun (step.Judge is.claim) (reply.Report report) is.right holds in
-        subst (λ (past : List TxnId). HoldsBehind past new whole begun) (ap (λ (more : List TxnId). gone ++ more) behind.1 ∙ append-nil gone) behind.2
+        let behind = steps gone old new whole begun (step.Judge is.claim) (reply.Report report) is.right stands in
+        subst (λ (past : List TxnId). StandsBoth past new whole begun) (ap (λ (more : List TxnId). gone ++ more) behind.1 ∙ append-nil gone) behind.2
 
-    spent : SpentOn old new report → HoldsBehind gone new whole begun
-    spent is = holds_still gone old new whole begun is.finished.parts is.finished.none_open is.held holds
+    spent : SpentOn old new report → StandsBoth gone new whole begun
+    spent is = record {
+      behind = holds_still gone old new whole begun is.finished.parts is.finished.none_open is.held stands.behind;
+      fast = finished old new whole begun is.finished stands.fast;
+    }
 
 -- ---- what it means
 

@@ -32,8 +32,8 @@ use Rattle.isolation_scripts.specs.Legal.{IsIsolationOf, LegalIsolation, SplitSt
 use Rattle.isolation_scripts.specs.Splitting.{CanBeAsked, split_wanted}
 use Rattle.isolation_scripts.specs.Steps.{CanBeMade, split_step}
 use Rattle.isolation_scripts.specs.Telling.{CommittedAreOfCommits, HalvedCountsAreWhole}
-use Rattle.engine_pasts.specs.Holding.{EventsStandBehind, HoldsBehind, MovesOn}
-use Rattle.engine_pasts.specs.Laws.{ReportedEventsStandBehind, StepsHoldBehind}
+use Rattle.engine_pasts.specs.Holding.{EventsStandBehind, MovesOn}
+use Rattle.engine_pasts.specs.Laws.{ReportedEventsStandBehind}
 use Rattle.cobra.specs.Saving.{fragment_told, saved_told}
 use Rattle.cobra.specs.Scripts.{IsBadLine, state_told}
 use Rattle.cobra.specs.StepReplies.{certified, claim_of, report_of, reply_of}
@@ -42,10 +42,11 @@ use Rattle.report_checking.specs.Isolation.{EndsIsolated, EndsWhere, IsIsolatedR
 use Rattle.report_checking.specs.Owing.{BeginsSearch, IsPlain}
 use Rattle.report_checking.specs.TrueReplies.{reported_in}
 use Rattle.report_checking.proofs.Earned.{KindOfTree, earned_events, earned_stays, earned_tree, judged_tree, received_behind}
+use Rattle.report_checking.proofs.Standing.{StandsBoth, StepsStandBoth}
 
--- the histories of a state, split, stand behind what is gone
+-- the engine of a state stands for its histories, split, and what it holds remains of them behind what is gone
 abbrev pub StandsIsolated : List TxnId → State → Type 0
-StandsIsolated gone state = HistoryCanBeSplit state.whole × HistoryCanBeSplit state.asked × HoldsBehind gone state.engine (split_history state.whole) (split_history state.asked)
+StandsIsolated gone state = HistoryCanBeSplit state.whole × HistoryCanBeSplit state.asked × StandsBoth gone state.engine (split_history state.whole) (split_history state.asked)
 
 -- The reply to a command is true, and puts something behind what is gone.
 pub record NextIsolated (gone : List TxnId) (old : State) (command : Command) (answer : Reply) (new : State) : Type 0 where
@@ -85,7 +86,7 @@ told_moves committed (reply.Report report) ahead moves = certified_moves report 
 told_moves committed (reply.Cut cut) ahead moves = λ id. (λ has. (committed cut.gone id).0 ((moves (commit_half id)).0 has), λ has. (moves (commit_half id)).1 ((committed cut.gone id).1 has))
 
 pub record Laws : Type 0 where
-  pub steps : StepsHoldBehind
+  pub steps : StepsStandBoth
   pub events : ReportedEventsStandBehind
   pub follow : SplitStepsFollow
   pub committed : CommittedAreOfCommits
@@ -103,7 +104,7 @@ module _ (laws : Laws) where
   told_true gone old new asked (reply.Cut cut) plain legal stands = tt
   told_true gone old new (step.Judge claim) (reply.Report report) plain legal stands =
       certified_true gone old.asked report report.certificate legal.true_reply.counts legal.true_reply.kind
-      (laws.events gone old.engine new.engine old.whole old.asked (step.Judge claim) report legal.engine stands.2)
+      (laws.events gone old.engine new.engine old.whole old.asked (step.Judge claim) report legal.engine stands.2.behind)
       (judged_tree (old.engine.rounds + 1) old.engine.held new.engine.held old.engine.asked (answer_claimed claim) report legal.engine.0)
   told_true gone old new (step.Finish budget depth workers) (reply.Report report) plain legal stands = absurd plain
   told_true gone old new asked (reply.Report report) plain legal stands = absurd legal.engine
@@ -111,7 +112,7 @@ module _ (laws : Laws) where
   -- what is told of a step that isn't a finish, where there may be so many sessions
   on_step : (sessions : ℕ) (gone : List TxnId) (old new : State) (command : Command) (asked : Step) (said : StepReply) → CanBeMade sessions asked → LegalIsolation old asked said new → StandsIsolated gone old → TellsIsolation true (Some gone) (reported_in old command) (isolated_of (reply_of said)) → NextIsolated gone old command (isolated_of (reply_of said)) new
   on_step sessions gone old new command asked said can legal stands is_true =
-      let follow = laws.follow sessions old.engine new.engine old asked said can legal.engine (received_behind gone old.engine.parts (split_history old.whole) stands.2.parts) stands.0 stands.1 in
+      let follow = laws.follow sessions old.engine new.engine old asked said can legal.engine (received_behind gone old.engine.parts (split_history old.whole) stands.2.behind.parts) stands.0 stands.1 in
       let behind = laws.steps gone old.engine new.engine (split_history old.whole) (split_history old.asked) (split_step asked) said legal.engine stands.2 in
       record {
         ahead = behind.0;
@@ -120,8 +121,8 @@ module _ (laws : Laws) where
         stands = (
           subst HistoryCanBeSplit (sym legal.whole) follow.can,
           subst HistoryCanBeSplit (sym legal.asked) follow.can_asked,
-          subst (λ (history : History). HoldsBehind (gone ++ behind.0) new.engine history (split_history new.asked)) (follow.whole ∙ ap split_history (sym legal.whole))
-              (subst (λ (history : History). HoldsBehind (gone ++ behind.0) new.engine (whole_after (split_state old) (split_step asked) said) history) (follow.asked ∙ ap split_history (sym legal.asked)) behind.2),
+          subst (λ (history : History). StandsBoth (gone ++ behind.0) new.engine history (split_history new.asked)) (follow.whole ∙ ap split_history (sym legal.whole))
+              (subst (λ (history : History). StandsBoth (gone ++ behind.0) new.engine (whole_after (split_state old) (split_step asked) said) history) (follow.asked ∙ ap split_history (sym legal.asked)) behind.2),
         );
       }
 
@@ -143,13 +144,13 @@ module _ (laws : Laws) where
 
       reported : (report : Report) × IsOwedIsolation old report new × (answer ≡ isolated_of (report_of report)) → EndsTrue gone old.asked answer new
       reported (report, owes, is) = subst (λ (a : Reply). EndsTrue gone old.asked a new) (sym is) (record {
-        is_true = certified_true gone old.asked report report.certificate owes.tells.counts owes.tells.kind (earned_events laws.events gone old.engine new.engine old.whole old.asked report owes.earned stands.2) (earned_tree old.engine new.engine report owes.earned);
+        is_true = certified_true gone old.asked report report.certificate owes.tells.counts owes.tells.kind (earned_events laws.events gone old.engine new.engine old.whole old.asked report owes.earned stands.2.behind) (earned_tree old.engine new.engine report owes.earned);
         moves = certified_moves report report.certificate [] refl;
         stands = (
           subst HistoryCanBeSplit (sym owes.whole) stands.0,
           subst HistoryCanBeSplit (sym owes.asked) stands.1,
-          subst (λ (history : History). HoldsBehind gone new.engine (split_history history) (split_history new.asked)) (sym owes.whole)
-              (subst (λ (history : History). HoldsBehind gone new.engine (split_history old.whole) (split_history history)) (sym owes.asked) (earned_stays laws.steps gone old.engine new.engine (split_history old.whole) (split_history old.asked) report owes.earned stands.2)),
+          subst (λ (history : History). StandsBoth gone new.engine (split_history history) (split_history new.asked)) (sym owes.whole)
+              (subst (λ (history : History). StandsBoth gone new.engine (split_history old.whole) (split_history history)) (sym owes.asked) (earned_stays laws.steps gone old.engine new.engine (split_history old.whole) (split_history old.asked) report owes.earned stands.2)),
         );
       })
 

@@ -24,8 +24,8 @@ use Rattle.round_state.specs.declared.steps.Step.{Step}
 use Rattle.round_state.specs.declared.steps.Step.TheVariants as step
 use Rattle.round_state.specs.declared.steps.StepReply.{StepReply}
 use Rattle.round_state.specs.declared.steps.StepReply.TheVariants as reply
-use Rattle.engine_pasts.specs.Holding.{HoldsBehind, MovesOn, StandsBehind}
-use Rattle.engine_pasts.specs.Laws.{ReportedOrdersStandBehind, StepsHoldBehind}
+use Rattle.engine_pasts.specs.Holding.{MovesOn, StandsBehind}
+use Rattle.engine_pasts.specs.Laws.{ReportedOrdersStandBehind}
 use Rattle.cobra.specs.Saving.{fragment_told, saved_told}
 use Rattle.cobra.specs.Scripts.{IsBadLine, state_told}
 use Rattle.cobra.specs.StepReplies.{certified, claim_of, report_of, reply_of}
@@ -33,10 +33,11 @@ use Rattle.cobra.specs.TrueReports.{MovesTxns, TellsTrueOf}
 use Rattle.report_checking.specs.Owing.{BeginsSearch, FinishesWhere, IsOwedReport, IsPlain, IsStep, OwesBeside, OwesFinish, OwesOpen, OwesRound}
 use Rattle.report_checking.specs.TrueReplies.{reported_in}
 use Rattle.report_checking.proofs.Earned.{KindOfTree, earned_behind, earned_stays, earned_tree, judged_tree}
+use Rattle.report_checking.proofs.Standing.{StandsBoth, StepsStandBoth}
 
--- the histories of a state stand behind what is gone
+-- the engine of a state stands for its histories, and what it holds remains of them behind what is gone
 abbrev pub StandsOrdered : List TxnId → State → Type 0
-StandsOrdered gone state = HoldsBehind gone state.engine state.whole state.asked
+StandsOrdered gone state = StandsBoth gone state.engine state.whole state.asked
 
 -- The reply to a command is true, and puts something behind what is gone.
 pub record NextOrdered (gone : List TxnId) (old : State) (command : Command) (answer : Reply) (new : State) : Type 0 where
@@ -80,14 +81,14 @@ told_moves (reply.Refused refusal) ahead moves = moves
 told_moves (reply.Report report) ahead moves = certified_moves report report.certificate ahead moves
 told_moves (reply.Cut cut) ahead moves = moves
 
-module _ (steps : StepsHoldBehind) (orders : ReportedOrdersStandBehind) where
+module _ (steps : StepsStandBoth) (orders : ReportedOrdersStandBehind) where
   told_true : (gone : List TxnId) (old new : State) (asked : Step) (said : StepReply) → IsPlain asked → Legal old asked said new → StandsOrdered gone old → TellsTrueOf true (Some gone) old.asked (reply_of said)
   told_true gone old new asked reply.Done plain legal stands = tt
   told_true gone old new asked (reply.Refused refusal) plain legal stands = tt
   told_true gone old new asked (reply.Cut cut) plain legal stands = tt
   told_true gone old new (step.Judge claim) (reply.Report report) plain legal stands =
       certified_true gone old.asked report report.certificate legal.true_reply.counts legal.true_reply.kind
-      (orders gone old.engine new.engine old.whole old.asked (step.Judge claim) report legal.engine stands)
+      (orders gone old.engine new.engine old.whole old.asked (step.Judge claim) report legal.engine stands.behind)
       (judged_tree (old.engine.rounds + 1) old.engine.held new.engine.held old.engine.asked (answer_claimed claim) report legal.engine.0)
   told_true gone old new (step.Finish budget depth workers) (reply.Report report) plain legal stands = absurd plain
   told_true gone old new asked (reply.Report report) plain legal stands = absurd legal.engine
@@ -101,8 +102,8 @@ module _ (steps : StepsHoldBehind) (orders : ReportedOrdersStandBehind) where
         is_true = is_true;
         moves = told_moves said behind.0 behind.1;
         stands =
-            subst (λ (history : History). HoldsBehind (gone ++ behind.0) new.engine history new.asked) (sym legal.whole)
-            (subst (λ (history : History). HoldsBehind (gone ++ behind.0) new.engine (whole_after old asked said) history) (sym legal.asked) behind.2);
+            subst (λ (history : History). StandsBoth (gone ++ behind.0) new.engine history new.asked) (sym legal.whole)
+            (subst (λ (history : History). StandsBoth (gone ++ behind.0) new.engine (whole_after old asked said) history) (sym legal.asked) behind.2);
       }
 
   by_step : (gone : List TxnId) (old new : State) (command : Command) (asked : Step) (answer : Reply) → reported_in old command ≡ old.asked → IsPlain asked → IsStep old asked answer new → StandsOrdered gone old → NextOrdered gone old command answer new
@@ -123,11 +124,11 @@ module _ (steps : StepsHoldBehind) (orders : ReportedOrdersStandBehind) where
 
       reported : (report : Report) × IsOwedReport old report new × (answer ≡ report_of report) → EndsOrdered gone old.asked answer new
       reported (report, owes, is) = subst (λ (a : Reply). EndsOrdered gone old.asked a new) (sym is) (record {
-        is_true = certified_true gone old.asked report report.certificate owes.tells.counts owes.tells.kind (earned_behind orders gone old.engine new.engine old.whole old.asked report owes.earned stands) (earned_tree old.engine new.engine report owes.earned);
+        is_true = certified_true gone old.asked report report.certificate owes.tells.counts owes.tells.kind (earned_behind orders gone old.engine new.engine old.whole old.asked report owes.earned stands.behind) (earned_tree old.engine new.engine report owes.earned);
         moves = certified_moves report report.certificate [] refl;
         stands =
-            subst (λ (history : History). HoldsBehind gone new.engine history new.asked) (sym owes.whole)
-            (subst (λ (history : History). HoldsBehind gone new.engine old.whole history) (sym owes.asked) (earned_stays steps gone old.engine new.engine old.whole old.asked report owes.earned stands));
+            subst (λ (history : History). StandsBoth gone new.engine history new.asked) (sym owes.whole)
+            (subst (λ (history : History). StandsBoth gone new.engine old.whole history) (sym owes.asked) (earned_stays steps gone old.engine new.engine old.whole old.asked report owes.earned stands));
       })
 
   finished : (gone : List TxnId) (old new : State) (command : Command) (answer : Reply) → reported_in old command ≡ old.asked → OwesFinish old answer new → StandsOrdered gone old → NextOrdered gone old command answer new

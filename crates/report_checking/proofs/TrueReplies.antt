@@ -10,16 +10,21 @@ use Rattle.log_text.specs.declared.versions.Opening.{Opening}
 use Rattle.log_text.specs.declared.versions.Opening.TheVariants.{Ordered, Isolated}
 use Rattle.log_text.specs.declared.versions.Promise.TheVariants.{Resumable}
 use Rattle.log_text.specs.Versions.{most_sessions}
+use Rattle.order_check.specs.Laws.{StandsForWhatRemains}
+use Rattle.round_state.specs.EngineState.{EngineState}
 use Rattle.round_state.specs.Legal.{State}
 use Rattle.round_state.specs.Opening.{fresh}
+use Rattle.round_state.specs.Runs.{Holds}
+use Rattle.isolation_histories.specs.Split.{split_history}
 use Rattle.isolation_scripts.specs.Legal.{NothingIsSplit}
-use Rattle.engine_pasts.specs.Holding.{HoldsBehind}
 use Rattle.engine_pasts.specs.Laws.{FreshEnginesHoldBehind, HalvesAreToldBehind, ReportedOrdersStandBehind}
+use Rattle.cobra.specs.KeptLaws.{HeldIsKept}
 use Rattle.cobra.specs.Scripts.{opened_state}
 use Rattle.report_checking.specs.Checking.{Checks, left_by, right, start, unchecked}
 use Rattle.report_checking.specs.OwedLines.{Owes, OwesFirst, OwesIn, OwesLine, ScriptState}
 use Rattle.report_checking.specs.TrueReplies.{ChecksTrue, IsKept, IsKeptIn, IsTrueTold, MovesIn, RightRepliesAreTrue, TellsIn, TellsTrue, beginning, left_out, reported_in, true_reply}
 use Rattle.report_checking.specs.declared.findings.Found.{Found}
+use Rattle.report_checking.proofs.Standing.{StandsBoth, StandsFast, fresh_stands}
 use Rattle.report_checking.proofs.TrueIsolated as isolated
 use Rattle.report_checking.proofs.TrueOrdered as ordered
 
@@ -29,8 +34,10 @@ pub record Laws : Type 0 where
   pub fresh_behind : FreshEnginesHoldBehind
   pub halves : HalvesAreToldBehind
   pub nothing : NothingIsSplit
+  pub remains : StandsForWhatRemains
+  pub rest : HeldIsKept
 
--- what stands behind what is gone, by what a script asks
+-- what stands for what was received, and remains behind what is gone, by what a script asks
 abbrev StandsIn : Opening → List TxnId → State → Type 0
 StandsIn (Ordered version) gone state = ordered.StandsOrdered gone state
 StandsIn (Isolated version) gone state = isolated.StandsIsolated gone state
@@ -39,9 +46,20 @@ abbrev Stands : Option ScriptState → List TxnId → Type 0
 Stands None gone = gone ≡ []
 Stands (Some script) gone = StandsIn script.opening gone script.state
 
+holds : (engine : EngineState) (whole asked : History) → StandsFast engine whole asked → Holds engine (record { engine = engine; whole = whole; asked = asked })
+holds engine whole asked fast = record { same = refl; parts = fast.parts; asked = fast.asked }
+
 kept_in : Laws → (opening : Opening) (gone : List TxnId) (state : State) → StandsIn opening gone state → IsKeptIn opening gone state
-kept_in laws (Ordered version) gone state stands = stands
-kept_in laws (Isolated version) gone state stands = (stands.0, stands.1, stands.2, laws.halves gone state.engine state.whole state.asked stands.2)
+kept_in laws (Ordered version) gone state stands = (holds state.engine state.whole state.asked stands.fast, laws.rest gone state.engine state.whole state.asked stands.fast.parts stands.behind)
+kept_in laws (Isolated version) gone state stands = (
+  record { holds = holds state.engine (split_history state.whole) (split_history state.asked) stands.2.fast; whole = stands.0; asked = stands.1 },
+  (
+    stands.0,
+    stands.1,
+    laws.rest gone state.engine (split_history state.whole) (split_history state.asked) stands.2.fast.parts stands.2.behind,
+    laws.halves gone state.engine state.whole state.asked stands.2.behind,
+  ),
+)
 
 kept : Laws → (script : Option ScriptState) (gone : List TxnId) → Stands script gone → IsKept script gone
 kept laws None gone stands = stands
@@ -65,10 +83,10 @@ next_in laws (Isolated version) searched after gone old new command answer owes 
 
 -- an engine that is opened stands behind nothing
 opened_stands : Laws → (opening : Opening) (sessions limit : ℕ) → StandsIn opening [] (opened_state opening sessions limit)
-opened_stands laws (Ordered version) sessions limit = laws.fresh_behind (most_sessions version) sessions limit
+opened_stands laws (Ordered version) sessions limit = fresh_stands laws.remains laws.fresh_behind (most_sessions version) sessions limit
 opened_stands laws (Isolated version) sessions limit =
     let nothing = laws.nothing sessions in
-    (nothing.1, nothing.1, subst (λ (history : History). HoldsBehind [] (fresh (most_sessions version) sessions (2 * limit)) history history) (sym nothing.0) (laws.fresh_behind (most_sessions version) sessions (2 * limit)))
+    (nothing.1, nothing.1, subst (λ (history : History). StandsBoth [] (fresh (most_sessions version) sessions (2 * limit)) history history) (sym nothing.0) (fresh_stands laws.remains laws.fresh_behind (most_sessions version) sessions (2 * limit)))
 
 -- where no script is open
 first_stands : Laws → (command : Command) (answer : Reply) (new : Option ScriptState) → OwesFirst command answer new → Stands new []

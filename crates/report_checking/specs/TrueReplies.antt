@@ -10,10 +10,11 @@ use Rattle.log_text.specs.declared.versions.Opening.{Opening}
 use Rattle.log_text.specs.declared.versions.Opening.TheVariants.{Ordered, Isolated}
 use Rattle.log_text.specs.Replies.{text_of}
 use Rattle.round_state.specs.Legal.{State}
-use Rattle.engine_pasts.specs.Holding.{HoldsBehind}
+use Rattle.round_state.specs.Runs.{Holds}
+use Rattle.isolation_scripts.specs.Legal.{HoldsSplit}
 use Rattle.cobra.specs.Outputs.{Asks}
 use Rattle.cobra.specs.Scripts.{IsBadLine}
-use Rattle.cobra.specs.TrueReports.{IsKeptSplit, MovesHalves, MovesTxns, TellsIsolation, TellsTrueOf}
+use Rattle.cobra.specs.TrueReports.{IsKeptSplit, KeepsRest, MovesHalves, MovesTxns, TellsIsolation, TellsTrueOf}
 use Rattle.report_checking.specs.Checking.{Checks, IsUnchecked}
 use Rattle.report_checking.specs.OwedLines.{Owes, ScriptState, names_told}
 use Rattle.report_checking.specs.Telling.{what_of}
@@ -25,11 +26,17 @@ abbrev pub reported_in : State → Command → History
 reported_in old (Round budget depth workers search) = old.whole
 reported_in old command = old.asked
 
--- What the engine of an open script holds remains of what was received, behind what is gone, in this order, split or not. The open round's snapshot
--- is one of what had been received when the round began, behind the same.
+-- What the engine of an open script keeps stands for all that was received: whatever may still come, the verdicts agree (StandsFor). So does the open
+-- round's snapshot for what had been received when the round began. Where transactions are split, their halves do.
+abbrev pub StandsForReceived : Opening → State → Type 0
+StandsForReceived (Ordered version) state = Holds state.engine state
+StandsForReceived (Isolated version) state = HoldsSplit state.engine state
+
+-- It stands for that, and remains of it, behind what is gone, in this order, split or not. So does the snapshot, of what had been received when the
+-- round began, behind the same.
 abbrev pub IsKeptIn : Opening → List TxnId → State → Type 0
-IsKeptIn (Ordered version) gone state = HoldsBehind gone state.engine state.whole state.asked
-IsKeptIn (Isolated version) gone state = IsKeptSplit gone state.engine state.whole state.asked
+IsKeptIn (Ordered version) gone state = StandsForReceived (Ordered version) state × KeepsRest gone state.engine state.whole state.asked
+IsKeptIn (Isolated version) gone state = StandsForReceived (Isolated version) state × IsKeptSplit gone state.engine state.whole state.asked
 
 -- the same of a script, where before it is open nothing is gone
 abbrev pub IsKept : Option ScriptState → List TxnId → Type 0

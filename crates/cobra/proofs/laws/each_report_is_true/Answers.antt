@@ -18,4 +18,5 @@ returns c = each_report (record {
   fresh_behind = c.fresh_engines_hold_behind.ensures;
   parts_behind = c.parts_hold_behind.ensures;
   halves = c.halves_are_told_behind.ensures;
+  rest = c.held_is_kept.ensures;
 })
