@@ -11,6 +11,11 @@ import refused_memory
 SESSIONS, EACH = 4, 250
 
 
+def offer(session, number):
+    """A transaction that writes a key of its session."""
+    return b'["offer",%d,%d,[[[],[%d]]]]\n' % (session, number, session + 1)
+
+
 @unittest.skipUnless(refused_memory.has_compiler(), "no cc is installed (nothing was counted)")
 class Allocations(unittest.TestCase):
     def setUp(self):
@@ -35,20 +40,20 @@ class Allocations(unittest.TestCase):
             self.assertFalse(reply.startswith(b'["no"'), f"{line!r}: {reply!r}")
         return self.shim.counts()[0] - before
 
-    def test_a_round_adds_what_has_come_and_makes_no_relation_anew(self):
+    def test_a_begin_adds_what_has_come_and_makes_no_relation_anew(self):
         running = self.start("cobra_audit")
         self.taken_by(running, b'["open",%d,%d]\n' % (SESSIONS, 2 * SESSIONS * EACH))
         for session in range(SESSIONS):
             for number in range(EACH):
-                self.taken_by(running, b'["offer",%d,%d,[[[],[%d]]]]\n' % (session, number, session))
+                self.taken_by(running, offer(session, number))
         anew = self.taken_by(running, b'["begin"]\n')
         self.taken_by(running, b'["finish",4096,0,1]\n')
         for number in range(EACH, EACH + 3):
-            kept = self.taken_by(running, b'["offer",0,%d,[[[],[0]]]]\n' % number, b'["begin"]\n')
-            self.assertLess(20 * kept, anew)
+            kept = self.taken_by(running, offer(0, number), b'["begin"]\n')
+            self.assertLess(10 * kept, anew)
             self.taken_by(running, b'["finish",4096,0,1]\n')
         self.taken_by(running, b'["rebuild"]\n')
-        self.assertLess(20 * kept, self.taken_by(running, b'["begin"]\n'))
+        self.assertLess(10 * kept, self.taken_by(running, b'["begin"]\n'))
 
     def test_a_desk_has_as_many_places_as_its_line_asks_for(self):
         path = path_of("cobra_demo")
