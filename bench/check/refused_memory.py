@@ -59,23 +59,30 @@ extern void *__libc_calloc(size_t, size_t);
 extern void *__libc_realloc(void *, size_t);
 extern void *__libc_memalign(size_t, size_t);
 static int (*create)(pthread_t *, const pthread_attr_t *, void *(*)(void *), void *);
-/* allocations so far; the first and the last that is refused; threads so far; the refused one */
-static unsigned long unused[5], *page = unused;
-static int is_refused(void) {
-    unsigned long call = __atomic_add_fetch(&page[0], 1, __ATOMIC_SEQ_CST);
+/* allocations so far; the first and the last that is refused; threads so far; the refused one; the
+   most bytes that one allocation asked for */
+static unsigned long unused[6], *page = unused;
+static int is_refused(size_t size) {
+    unsigned long call = __atomic_add_fetch(&page[0], 1, __ATOMIC_SEQ_CST), most = page[5];
+    while (most < size && !__atomic_compare_exchange_n(&page[5], &most, size, 0, __ATOMIC_SEQ_CST,
+                                                       __ATOMIC_SEQ_CST)) {}
     unsigned long first = __atomic_load_n(&page[1], __ATOMIC_SEQ_CST);
     if (!first || call < first || page[2] < call) return 0;
     errno = ENOMEM;
     return 1;
 }
-void *malloc(size_t size) { return is_refused() ? 0 : __libc_malloc(size); }
-void *calloc(size_t count, size_t size) { return is_refused() ? 0 : __libc_calloc(count, size); }
-void *realloc(void *block, size_t size) { return is_refused() ? 0 : __libc_realloc(block, size); }
+void *malloc(size_t size) { return is_refused(size) ? 0 : __libc_malloc(size); }
+void *calloc(size_t count, size_t size) {
+    return is_refused(count * size) ? 0 : __libc_calloc(count, size);
+}
+void *realloc(void *block, size_t size) {
+    return is_refused(size) ? 0 : __libc_realloc(block, size);
+}
 void *aligned_alloc(size_t align, size_t size) {
-    return is_refused() ? 0 : __libc_memalign(align, size);
+    return is_refused(size) ? 0 : __libc_memalign(align, size);
 }
 int posix_memalign(void **block, size_t align, size_t size) {
-    void *found = is_refused() ? 0 : __libc_memalign(align, size);
+    void *found = is_refused(size) ? 0 : __libc_memalign(align, size);
     if (found) *block = found;
     return found ? 0 : ENOMEM;
 }
@@ -143,7 +150,7 @@ class Shim:
         """Starts the program over pipes, with these arguments. `refused` is the number of an
         allocation, or of a thread, or 0."""
         last = FOR_EVER if is_lasting else refused
-        struct.pack_into("5Q", self.page, 0, 0, refused, last, 0, thread)
+        struct.pack_into("6Q", self.page, 0, 0, refused, last, 0, thread, 0)
         pipes = {"stdin": subprocess.PIPE, "stdout": subprocess.PIPE, "stderr": subprocess.PIPE}
         return subprocess.Popen([program, *words], bufsize=0, **pipes,
                                 env={"LD_PRELOAD": self.library, "PAGE": self.counted})
@@ -155,6 +162,10 @@ class Shim:
     def counts(self):
         """How many allocations, and how many threads, the last program has requested."""
         return struct.unpack_from("Q", self.page)[0], struct.unpack_from("Q", self.page, 24)[0]
+
+    def largest(self):
+        """The most bytes that the last program has requested at once."""
+        return struct.unpack_from("Q", self.page, 40)[0]
 
     def run(self, program, given, *words, **refused):
         """The output for a whole input, the status and the messages."""
