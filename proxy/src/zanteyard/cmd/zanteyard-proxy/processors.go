@@ -70,8 +70,9 @@ func fewProcessors(ctx context.Context, loops *loop.Loops) {
 const looksAtQueue = 0.2
 
 // wanted returns how much the loops would have used if their threads had had a processor whenever they could run. A
-// kernel may keep many threads on few processors, though others are idle. Then a loop that sleeps until a message arrives
-// gets a processor late each time, and seems to have little to do. Another loop is one more thread to be put elsewhere.
+// kernel may keep many threads on few processors, though others are idle. Then a loop that sleeps until a message
+// arrives gets a processor late each time, and seems to have little to do. Another loop is one more thread to be put
+// elsewhere.
 func wanted(byLoops, all, queued float64) float64 {
 	if all <= 0 {
 		return 0
