@@ -1,7 +1,7 @@
 """What the proxy costs an application, compared with a direct connection and with pgbouncer.
 
     python3 bench/cost/proxy_cost.py [--seconds N] [--times N] [--clients N ..] [--work NAME ..]
-        [--way NAME ..] [--protocol NAME ..] [--scale N] [--latency]
+        [--way NAME ..] [--protocol NAME ..] [--scale N] [--latency] [--waits]
 
 Each work of pgbench (`select` is its -S, `update` its -N, `tpcb` its tpcb-like; `transfer` is two
 reads and an update at serializable; `asks` is a read and an update, where two reads in five ask by
@@ -11,8 +11,10 @@ does), `passing` (the proxy with --pass), `audited` (`zanteyard watch --no-condi
 that it starts), `followed` (the same with conditions). The programs in between run only during their
 turn. The table has, as medians: transactions per second; their share of the direct ones; the
 microseconds of processor time per transaction, of pgbouncer or the proxy, and of the rest of the
-audit; and with --latency, the median and the 99th percentile of a transaction's time, in
-microseconds. With TMPDIR=/dev/shm the server's folder is in memory.
+audit; with --latency, the median and the 99th percentile of a transaction's time, in microseconds;
+and with --waits, the slowest run's rate, the microseconds per transaction for which threads of
+pgbouncer or the proxy could run but had no processor, and the share of the machine's processors that
+was idle. With TMPDIR=/dev/shm the server's folder is in memory.
 
 It needs PostgreSQL 15, pgbouncer and a built proxy (`proxy/build.sh`, or ZANTEYARD_PROXY).
 """
@@ -75,8 +77,6 @@ pidfile = {folder}/pgbouncer.pid
 unix_socket_dir =
 ignore_startup_parameters = extra_float_digits
 """
-
-
 SLOT = "cost"  # and what the proxy asks of its own
 OPTIONS = {"format-version": 2, "include-xids": 1, "include-lsn": 1, "include-pk": 1}
 OPTIONS |= {"include-types": 0, "include-timestamp": 0, "include-transaction": 1}
@@ -121,6 +121,23 @@ def processor_time(pid: int) -> float:
     return (int(fields[11]) + int(fields[12])) / TICKS
 
 
+def queued_time(pid: int) -> float:
+    """For how many seconds the threads of a process could run, but had no processor."""
+    waited = 0
+    with contextlib.suppress(OSError):
+        for task in os.listdir(f"/proc/{pid}/task"):
+            with open(f"/proc/{pid}/task/{task}/schedstat", encoding="ascii") as file:
+                waited += int(file.read().split()[1])
+    return waited / 1e9
+
+
+def idle_time() -> float:
+    """For how many seconds the machine's processors were idle, all together."""
+    with open("/proc/stat", encoding="ascii") as file:
+        fields = file.readline().split()
+    return (int(fields[4]) + int(fields[5])) / TICKS
+
+
 def descendants(pid: int) -> list[int]:
     found = [pid]
     for each in found:
@@ -136,13 +153,14 @@ class Way:
 
     def __init__(self, name: str, host: str, port: int, pid: int | None = None) -> None:
         self.name, self.host, self.port, self.pid = name, host, port, pid
+        self.queued = 0.0  # for which what passes the traffic on had waited for a processor
 
     def used(self) -> tuple[float, float]:
         """Processor time so far: of what passes the traffic on, and of everything else that was
         started."""
         if self.pid is None:
             return 0.0, 0.0
-        between = beside = 0.0
+        between = beside = self.queued = 0.0
         for each in descendants(self.pid):
             try:
                 with open(f"/proc/{each}/comm", encoding="utf-8") as file:
@@ -151,6 +169,7 @@ class Way:
                 continue
             if command.startswith(("zanteyard-proxy", "pgbouncer")):
                 between += processor_time(each)
+                self.queued += queued_time(each)
             else:
                 beside += processor_time(each)
         return between, beside
@@ -258,8 +277,9 @@ def latencies(folder: str) -> tuple[float, float]:
 class Figures:
     """The figures of one run."""
 
-    def __init__(self, rate: float, between: float, beside: float, late: tuple[float, float]):
-        self.rate, self.between, self.beside, self.late = rate, between, beside, late
+    def __init__(self, rate: float, used: list[float], idle: float, late: tuple[float, float]):
+        self.rate, self.idle, self.late = rate, idle, late
+        self.between, self.beside, self.queued = used
 
 
 def run(asked: Any, folder: str, way: Way, work: str, protocol: str, clients: int) -> Figures:
@@ -279,15 +299,16 @@ def run(asked: Any, folder: str, way: Way, work: str, protocol: str, clients: in
         call += ["-l", "--log-prefix", os.path.join(folder, "latency")]
     if asked.rate:
         call += ["-R", str(asked.rate)]
-    before = way.used()
+    before, idle, began = (*way.used(), way.queued), idle_time(), time.monotonic()
     done = subprocess.run(call + ["postgres"], capture_output=True, text=True, check=False)
-    after = way.used()
+    idle = (idle_time() - idle) / (time.monotonic() - began) / (os.cpu_count() or 1)
+    after = (*way.used(), way.queued)
     rate = re.search(r"tps = ([0-9.]+) \(without initial", done.stdout)
     count = re.search(r"transactions actually processed: ([0-9]+)", done.stdout)
     if rate is None or count is None or not int(count[1]):
         raise SystemExit(f"{way.name} {work} {protocol}: {done.stdout}{done.stderr}")
     used = [(b - a) * 1e6 / int(count[1]) for a, b in zip(before, after)]
-    return Figures(float(rate[1]), used[0], used[1], latencies(folder))
+    return Figures(float(rate[1]), used, idle, latencies(folder))
 
 
 def middle(runs: list[Figures], name: str) -> float:
@@ -296,7 +317,8 @@ def middle(runs: list[Figures], name: str) -> float:
 
 def table(asked: Any, folder: str, started: Started) -> None:
     print(f"{'work':9}{'protocol':9}{'clients':>8}  {'way':10}{'a second':>9}{'of direct':>10}"
-          f"{'between':>9}{'beside':>8}" + (f"{'middle':>9}{'99/100':>9}" if asked.latency else ""))
+          f"{'between':>9}{'beside':>8}" + (f"{'middle':>9}{'99/100':>9}" if asked.latency else "")
+          + (f"{'slowest':>9}{'queued':>8}{'idle':>6}" if asked.waits else ""))
     for work in asked.work:
         for protocol in asked.protocol:
             for clients in asked.clients:
@@ -315,6 +337,9 @@ def table(asked: Any, folder: str, started: Started) -> None:
                         for place in (0, 1):
                             late = statistics.median(each.late[place] for each in of_way)
                             line += f"{late:9.0f}"
+                    if asked.waits:
+                        line += f"{min(each.rate for each in of_way):9.0f}"
+                        line += f"{middle(of_way, 'queued'):8.1f}{middle(of_way, 'idle'):6.0%}"
                     print(line, flush=True)
 
 
@@ -352,12 +377,11 @@ def main() -> None:
     parser.add_argument("--clients", type=int, nargs="+", default=[1, 8], help="how many clients (1 8)")
     parser.add_argument("--work", nargs="+", choices=WORKS, default=list(WORKS))
     parser.add_argument("--way", nargs="+", choices=WAYS, default=list(WAYS))
-    parser.add_argument(
-        "--protocol", nargs="+", choices=("simple", "extended", "prepared"),
-        default=["simple", "prepared"],
-    )
+    protocols = ("simple", "extended", "prepared")
+    parser.add_argument("--protocol", nargs="+", choices=protocols, default=["simple", "prepared"])
     parser.add_argument("--rate", type=int, help="transactions a second at most")
     parser.add_argument("--latency", action="store_true", help="also show how long transactions took")
+    parser.add_argument("--waits", action="store_true", help="also show what waited for processors")
     asked = parser.parse_args()
     folder = tempfile.mkdtemp(prefix="proxy_cost")
     os.chmod(folder, 0o777)

@@ -357,6 +357,19 @@ func (c *core) end(rest []message) {
 	c.counts.totals.close(auditEnded)
 }
 
+// addUnreported adds to what is told of an audit that is stopped, and goes on, what end would count for the slot.
+func (c *core) addUnreported(to *Totals) {
+	rows := c.unreported()
+	to.RowsWritten.All += rows
+	to.RowsWritten.leave(noNumber, rows)
+	for number, rows := range c.unreportedRows() {
+		to.RowsWritten.All += rows // these wait, unless they are left out
+		if why, is := c.owed[number]; is {
+			to.RowsWritten.leave(why, rows)
+		}
+	}
+}
+
 // endUnnumbered counts the rows of those whose number isn't known, as far as the slot hasn't reported them.
 func (c *core) endUnnumbered() { c.counts.wrote(c.unreported()) }
 

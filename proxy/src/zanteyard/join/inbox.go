@@ -274,7 +274,7 @@ type spare struct {
 
 // unclaimed are such commits by number, and how many of their rows transactions without a number don't account for.
 type unclaimed struct {
-	numbers map[uint32]uint64 // with their rows
+	numbers map[uint32]uint64 // with their rows, if a transaction without a number may have written them
 	rows    uint64
 }
 
@@ -288,8 +288,8 @@ func (s *spare) without(it *record.Transaction) uint64 {
 	s.lock.Lock()
 	defer s.lock.Unlock()
 	if it.Number != 0 {
-		if s.claim(uint32(it.Number)) {
-			return 0
+		if owed, is := s.claim(uint32(it.Number)); is {
+			return owed
 		}
 		return rows
 	}
@@ -301,21 +301,25 @@ func (s *spare) without(it *record.Transaction) uint64 {
 	return rows - taken
 }
 
-// claimed records that somebody has reported a commit of this number.
-func (s *spare) claimed(number uint32) {
-	if s != nil {
-		s.lock.Lock()
-		defer s.lock.Unlock()
-		s.claim(number)
+// claimed records that somebody has reported a commit of this number, and returns how many rows are owed for it (claim).
+func (s *spare) claimed(number uint32) (owed uint64) {
+	if s == nil {
+		return 0
 	}
+	s.lock.Lock()
+	defer s.lock.Unlock()
+	owed, _ = s.claim(number)
+	return owed
 }
 
-// claim reports whether there is such a commit. Called with lock held.
-func (s *spare) claim(number uint32) bool {
+// claim reports whether there is such a commit. If one without a number was taken for it, that one's rows aren't counted
+// yet: as many are owed. Called with lock held.
+func (s *spare) claim(number uint32) (owed uint64, is bool) {
 	counted, is := s.numbers[number]
 	delete(s.numbers, number)
-	s.rows -= min(counted, s.rows)
-	return is
+	taken := min(counted, s.rows)
+	s.rows -= taken
+	return counted - taken, is
 }
 
 // left adds what nobody has told yet.

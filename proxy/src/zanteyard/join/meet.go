@@ -109,6 +109,7 @@ func (j *Joiner) endMeeting() {
 		last := j.coverageEvent(false)
 		j.heard, j.hasStopped = j.earlier+last.Totals.Transactions.ended(), true
 		last.Last = true
+		j.core.addUnreported(&last.Totals)
 		j.output.Event(last)
 		j.output.Event(Stopped{At: j.core.now})
 	}

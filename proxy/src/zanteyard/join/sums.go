@@ -154,7 +154,9 @@ func (c *core) unclaim(number uint64, reason string) (why string) {
 	delete(c.others.by, uint32(number))
 	switch {
 	case it.earlier:
-		c.spare.claimed(uint32(number))
+		owed := c.spare.claimed(uint32(number))
+		c.counts.wrote(owed)
+		c.counts.leaveWrites(betweenAudits, owed)
 		return betweenAudits
 	case it.bare:
 		c.counts.bare--
@@ -213,8 +215,10 @@ func (c *core) inherit(from *core) {
 		}
 	}
 	for _, number := range from.others.order {
-		if it, is := from.others.by[number]; is {
+		if it, is := from.others.by[number]; is && (it.unknown || it.earlier) {
 			c.others.put(number, claim{earlier: true, rows: it.rows})
+		} else if is {
+			c.others.put(number, claim{earlier: true})
 		}
 	}
 	for _, w := range from.late {

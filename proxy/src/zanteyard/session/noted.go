@@ -48,6 +48,9 @@ func (s *Session) note(e *expectation) *record.Statement {
 		st.Parameters, st.More = e.at.parameters, e.at.more
 	}
 	t.kept += sizeOf(&st)
+	if t.Statements == nil {
+		t.Statements = make([]record.Statement, 0, t.usual.statements)
+	}
 	t.Statements = append(t.Statements, st)
 	return &t.Statements[len(t.Statements)-1]
 }

@@ -11,6 +11,7 @@ import (
 
 const (
 	fewReads       = 16 // up to this many are compared one by one
+	fewStatements  = 8  // for up to this many room is made at once
 	mostStatements = 256
 	mostSelects    = 10000   // that are looked at one by one, whether what they read was checked
 	mostKept       = 1 << 20 // bytes of a transaction's statements and their parameters
@@ -57,6 +58,8 @@ type transaction struct {
 	// unlooked means that a statement of it wasn't looked at, and unasked why its number wasn't asked for before COMMIT.
 	unlooked bool
 	unasked  string
+	// usual is how many statements and reads the transaction before it had: there is room for as many from the first one on.
+	usual struct{ statements, reads int }
 }
 
 // Why the number of a transaction isn't known that may have written.
@@ -116,6 +119,9 @@ func (t *transaction) read(reads []record.Read, limit int, counts bool) {
 			t.Did.Beyond += uint64(n)
 			t.reading.Unkept++
 		default:
+			if t.Reads == nil {
+				t.Reads = make([]record.Read, 0, t.usual.reads)
+			}
 			t.Reads = append(t.Reads, r)
 			t.keys += len(r.Key)
 			t.Did.Added(len(t.Reads), n)
@@ -205,12 +211,22 @@ func (s *Session) finish(outcome record.Outcome) {
 		s.defines = false
 		s.options.Defined()
 	}
-	seen := t.seen
+	seen, usual := t.seen, t.usual
 	for r := range seen {
 		delete(seen, r)
 	}
-	s.tx = transaction{seen: seen}
+	if counted {
+		usual.statements, usual.reads = least(len(t.Statements), fewStatements), least(len(t.Reads), fewReads)
+	}
+	s.tx = transaction{seen: seen, usual: usual}
 	s.tx.Began = s.queue.next() // what was sent before this one's end may have begun by itself
+}
+
+func least(a, b int) int {
+	if a < b {
+		return a
+	}
+	return b
 }
 
 // report reports a transaction, or that there was one that isn't offered.

@@ -72,6 +72,9 @@ func (r *Reader) begin(ctx context.Context) (err error) {
 	if r.options.Marked != nil {
 		r.options.Marked(r.mark)
 	}
+	if err := r.patient(ctx); err != nil {
+		return err
+	}
 	quiet, err := r.quiet(ctx)
 	if err != nil {
 		return err

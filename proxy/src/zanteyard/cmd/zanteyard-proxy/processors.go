@@ -4,6 +4,8 @@ import (
 	"context"
 	"os"
 	"runtime"
+	"strconv"
+	"strings"
 	"syscall"
 	"time"
 
@@ -20,10 +22,11 @@ const (
 )
 
 // fewProcessors makes the program use no more processors at once than its traffic needs: one for the loop that passes
-// messages on, one for everything else, and more of each when these are busy. While a processor is idle, Go wakes a
-// thread for each message that arrives for a goroutine, which takes longer than handling it; and a second loop takes
-// some of the messages that the first one would have handled together. GOMAXPROCS in the environment fixes the number
-// of processors for goroutines, whatever the traffic. It returns when ctx ends.
+// messages on, one for everything else, and more of each when these are busy, or more loops when they are kept from it
+// (wanted). While a processor is idle, Go wakes a thread for each message that arrives for a goroutine, which takes
+// longer than handling it; and a second loop takes some of the messages that the first one would have handled together.
+// GOMAXPROCS in the environment fixes the number of processors for goroutines, whatever the traffic. It returns when
+// ctx ends.
 func fewProcessors(ctx context.Context, loops *loop.Loops) {
 	most := runtime.NumCPU()
 	fixed := os.Getenv("GOMAXPROCS") != ""
@@ -39,6 +42,7 @@ func fewProcessors(ctx context.Context, loops *loop.Loops) {
 	tick := time.NewTicker(lookAtUse)
 	defer tick.Stop()
 	last, used, busy := time.Now(), processorTime(), loops.Busy()
+	var queue queue
 	for {
 		select {
 		case <-ctx.Done():
@@ -51,13 +55,64 @@ func fewProcessors(ctx context.Context, loops *loop.Loops) {
 		if byLoops > all { // a loop was busy, but had no processor
 			byLoops = all
 		}
-		passing.look(byLoops / span)
+		queued := float64(queue.since(all > looksAtQueue*span))
+		passing.look(wanted(byLoops, all, queued) / span)
 		others.look((all - byLoops) / span)
 		if passing.now != wasPassing || others.now != wasOthers {
 			set()
 		}
 		last, used, busy = now, taken, busyNow
 	}
+}
+
+// looksAtQueue is the part of a processor that the program has to use before it looks for how long its threads were
+// queued.
+const looksAtQueue = 0.2
+
+// wanted returns how much the loops would have used if their threads had had a processor whenever they could run. A
+// kernel may keep many threads on few processors, though others are idle. Then a loop that sleeps until a message
+// arrives gets a processor late each time, and seems to have little to do. Another loop is one more thread to be put
+// elsewhere.
+func wanted(byLoops, all, queued float64) float64 {
+	if all <= 0 {
+		return 0
+	}
+	return byLoops + queued*byLoops/all
+}
+
+// queue tells how long the program's threads were queued: they could run, but had no processor.
+type queue struct {
+	sum  time.Duration // of all threads, at the last look
+	seen bool          // at the last look it was looked up
+}
+
+// since returns how long it was since the last look, if it is wanted then and now.
+func (q *queue) since(wanted bool) time.Duration {
+	last, seen := q.sum, q.seen
+	if q.seen = wanted; wanted {
+		q.sum = queuedTime()
+	}
+	if !wanted || !seen || q.sum < last { // a thread that has ended isn't in the sum any more
+		return 0
+	}
+	return q.sum - last
+}
+
+// queuedTime returns how long the program's threads have been queued, 0 if the kernel doesn't tell.
+func queuedTime() (sum time.Duration) {
+	const tasks = "/proc/self/task"
+	all, err := os.ReadDir(tasks)
+	if err != nil {
+		return 0
+	}
+	for _, one := range all {
+		text, err := os.ReadFile(tasks + "/" + one.Name() + "/schedstat")
+		if its := strings.Fields(string(text)); err == nil && len(its) > 1 {
+			queued, _ := strconv.ParseInt(its[1], 10, 64)
+			sum += time.Duration(queued)
+		}
+	}
+	return sum
 }
 
 // processors is how many the program uses at once.

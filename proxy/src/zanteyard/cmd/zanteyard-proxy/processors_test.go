@@ -1,6 +1,10 @@
 package main
 
-import "testing"
+import (
+	"runtime"
+	"testing"
+	"time"
+)
 
 func TestProcessors(t *testing.T) {
 	p := processors{now: 1, most: 3}
@@ -29,5 +33,54 @@ func TestProcessors(t *testing.T) {
 		if p.now != step.want {
 			t.Fatalf("step %d: %d processors, want %d", i, p.now, step.want)
 		}
+	}
+}
+
+// TestWanted: a loop that waits for a processor wants more of them, as far as it is a loop that waits.
+func TestWanted(t *testing.T) {
+	for _, x := range []struct{ byLoops, all, queued, want float64 }{
+		{0, 0, 0, 0},
+		{0, 0, 5, 0}, // who has used nothing is no loop
+		{0.4, 0.5, 0, 0.4},
+		{0.4, 0.5, 0.5, 0.8},
+		{0.4, 0.4, 0.5, 0.9},
+		{0, 0.5, 0.5, 0},
+	} {
+		if got := wanted(x.byLoops, x.all, x.queued); got != x.want {
+			t.Errorf("%v: %v", x, got)
+		}
+	}
+}
+
+// TestQueue: threads that share processors are queued, and only what is between two looks counts.
+func TestQueue(t *testing.T) {
+	if queuedTime() == 0 {
+		t.Skip("the kernel doesn't tell")
+	}
+	threads := 2 * runtime.NumCPU()
+	defer runtime.GOMAXPROCS(runtime.GOMAXPROCS(threads))
+	ended := make(chan struct{})
+	defer close(ended)
+	for i := 0; i < threads; i++ {
+		go func() {
+			for {
+				select {
+				case <-ended:
+					return
+				default:
+				}
+			}
+		}()
+	}
+	var q queue
+	if q.since(true) != 0 || q.since(false) != 0 || q.since(true) != 0 {
+		t.Error("what was before the last look counts")
+	}
+	sum := time.Duration(0)
+	for end := time.Now().Add(time.Minute); sum < 10*time.Millisecond; sum += q.since(true) {
+		if time.Now().After(end) {
+			t.Fatalf("%d threads of %d processors were queued for %v", threads, runtime.NumCPU(), sum)
+		}
+		time.Sleep(time.Millisecond)
 	}
 }
