@@ -1,6 +1,6 @@
 ghost use Rattle.std.specs.Prelude.{◌<◌, ◌≤◌, IfOk};
 
-use cobra::{DeviceFault, ReaderSource, WriterSink, write_all};
+use cobra::{ByteSink, ByteSource, DeviceFault, ReaderSource, WriterSink, write_all};
 use std::cell::Cell;
 use std::io::{self, ErrorKind, Read, Write};
 use std::process::Abort;

@@ -246,11 +246,7 @@ fn tried(rt: &impl Abort, alloc: Global, made: &Made) -> Result<Kind, Fail> {
 }
 
 /// What is replied to the script.
-fn replies<R: Threads + Wait>(
-    rt: &R,
-    alloc: Global,
-    script: &str,
-) -> Result<Vec<u8>, Failure> {
+fn replies<R: Threads + Wait>(rt: &R, alloc: Global, script: &str) -> Result<Vec<u8>, Failure> {
     let mut source = MemorySource {
         bytes: script.as_bytes(),
         pace: Pace::new(4096, 0),
