@@ -14,4 +14,6 @@ mod holding;
 #[cfg(test)]
 mod judging;
 #[cfg(test)]
+mod publishing;
+#[cfg(test)]
 mod stage;
