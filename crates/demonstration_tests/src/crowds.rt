@@ -7,7 +7,7 @@ use live_audit::Effort;
 use logged_fragments::LoggedFragment;
 use order_check::Kind;
 use polygraph::Single;
-use report_queue::Entry;
+use report_queue::{Entry, Latest, ReaderSeat};
 use round_state::Report;
 use std::alloc::{AllocError, Global};
 use std::sync::atomic::{AtomicU64, Ordering};
@@ -274,7 +274,9 @@ impl Play for Crowd {
     }
 
     /// The reader begins only when the desk is full.
-    fn wait_to_read<R: Wait>(&self, rt: &R) {
+    fn wait_to_read<R: Wait>(&self, rt: &R, _latest: &Latest, _seat: &mut ReaderSeat)
+        requires { _seat.old.word ≡ _latest.now }
+    {
         for _ in rt.forever() {
             if self.full.load(Ordering::SeqCst) == 1 {
                 return;

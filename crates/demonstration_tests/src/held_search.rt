@@ -7,7 +7,7 @@ use fragment_intake::{CollectorPass, Desk, Item};
 use live_audit::Effort;
 use logged_fragments::LoggedFragment;
 use order_check::Kind;
-use report_queue::Entry;
+use report_queue::{Entry, Latest, ReaderSeat};
 use round_state::{Certificate, Report};
 use std::alloc::Global;
 use std::sync::{Mutex, Wait};
@@ -159,7 +159,9 @@ impl Play for HeldPlay {
         submit(rt, desk, pass, Item::End);
     }
 
-    fn wait_to_read<R: Wait>(&self, _rt: &R) {}
+    fn wait_to_read<R: Wait>(&self, _rt: &R, _latest: &Latest, _seat: &mut ReaderSeat)
+        requires { _seat.old.word ≡ _latest.now }
+    {}
 
     /// Once what collector 0 submitted at its place 2 is accepted, the search goes on.
     fn hear<R: Wait>(&self, rt: &R, entry: &Entry) {

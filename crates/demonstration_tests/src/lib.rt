@@ -2,6 +2,8 @@
 #![tactic(auto)]
 
 #[cfg(test)]
+mod cores;
+#[cfg(test)]
 mod crowds;
 #[cfg(test)]
 mod demonstrations;
@@ -11,5 +13,7 @@ mod held_search;
 mod holding;
 #[cfg(test)]
 mod judging;
+#[cfg(test)]
+mod publishing;
 #[cfg(test)]
 mod stage;

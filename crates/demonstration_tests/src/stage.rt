@@ -8,7 +8,7 @@ ghost use Rattle.demonstration_tests.specs.Stage.{AreFresh, IsFreshSide};
 use fragment_intake::{CollectorPass, CollectorPasses, Desk, Item, Tally};
 use live_audit::{AuditorSide, Effort, Means, audit_live};
 use polygraph::Solver;
-use report_queue::{Entry, Latest, ReportReader, ring};
+use report_queue::{Entry, Latest, ReaderSeat, ReportReader, ring};
 use round_state::Engine;
 use std::alloc::{AllocError, Global};
 use std::snapshot::Snapshot;
@@ -31,11 +31,19 @@ pub trait Play {
         requires { (pass.old.0 ≡ desk.now.0) × (pass.old.2 ≡ []) }
         ensures { (pass.new.0 ≡ pass.old.0) × (pass.new.1 ≡ pass.old.1) };
 
-    /// Returns once the reader is to begin.
-    fn wait_to_read<R: Wait>(&self, rt: &R);
+    /// Returns once the reader is to begin. It may look at the latest report meanwhile.
+    fn wait_to_read<R: Wait>(&self, rt: &R, latest: &Latest, seat: &mut ReaderSeat)
+        requires { seat.old.word ≡ latest.now };
 
     /// Hears of an entry that the reader has read. The end isn't one of them.
     fn hear<R: Wait>(&self, rt: &R, entry: &Entry);
+}
+
+/// The reader's side of the ring and of the word.
+#[derive(Drop)]
+struct ReaderSide {
+    reader: ReportReader,
+    seat: ReaderSeat,
 }
 
 /// What the threads share beside the play: whether they are to work, the desk, and the word.
@@ -106,10 +114,15 @@ fn read_all<R: Wait, P: Play>(rt: &R, play: &P, reader: &mut ReportReader) {
 }
 
 /// The reader's whole work, once it is called.
-fn read<R: Wait, P: Play>(rt: &R, hall: &Hall, play: &P, reader: ReportReader) {
-    let mut reader = reader;
+fn read<R: Wait, P: Play>(rt: &R, hall: &Hall, play: &P, reader_side: ReaderSide)
+    requires { reader_side.seat.word ≡ hall.now.latest }
+{
+    let ReaderSide {
+        mut reader,
+        mut seat,
+    } = reader_side;
     if *hall.start.wait(rt) {
-        play.wait_to_read(rt);
+        play.wait_to_read(rt, &hall.latest, &mut seat);
         read_all(rt, play, &mut reader);
     }
 }
@@ -147,9 +160,15 @@ fn start_reader<'s, E, R: Threads + Wait + Sync, P: Play + Sync>(
     rt: &'s R,
     hall: &'s Hall,
     play: &'s P,
-    reader: ReportReader,
-) -> Result<JoinHandle<()>, NoMemory> {
-    let thread = scope.spawn(move || -> () { read(rt, hall, play, reader) })?;
+    reader_side: ReaderSide,
+) -> Result<JoinHandle<()>, NoMemory>
+    requires { reader_side.seat.word ≡ hall.now.latest }
+{
+    let thread = scope.spawn(
+        move || -> ()
+            requires { reader_side.seat.word ≡ hall.now.latest }
+        { read(rt, hall, play, reader_side) },
+    )?;
     Ok(thread)
 }
 
@@ -201,7 +220,7 @@ fn run_threads<R: Threads + Wait + Sync, P: Play + Sync, S: Solver + Sync>(
     effort: Effort,
     passes: CollectorPasses,
     side: AuditorSide,
-    reader: ReportReader,
+    reader_side: ReaderSide,
 ) -> Result<Returned, NoMemory>
     requires ready { S.ready }
     requires effort { IsEffort effort.budget effort.depth effort.workers }
@@ -209,6 +228,7 @@ fn run_threads<R: Threads + Wait + Sync, P: Play + Sync, S: Solver + Sync>(
     requires none { AreFresh passes }
     requires none_open { engine.asked ≡ None }
     requires side { IsFreshSide hall.now.desk hall.now.latest side }
+    requires reader_side { reader_side.seat.word ≡ hall.now.latest }
     ensures passes { IfOk result (λ returned. AreCollectorsOf hall.now.desk returned.passes) }
     ensures side { IfOk result (λ returned. returned.side.pass.0 ≡ hall.now.desk.0) }
 {
@@ -217,11 +237,11 @@ fn run_threads<R: Threads + Wait + Sync, P: Play + Sync, S: Solver + Sync>(
         rt,
         move |scope| -> Result<Returned, NoMemory>
             requires { S.ready × IsEffort effort.budget effort.depth effort.workers × AreCollectorsOf hall.now.desk passes
-                × AreFresh passes × (engine.asked ≡ None) × IsFreshSide hall.now.desk hall.now.latest side }
+                × AreFresh passes × (engine.asked ≡ None) × IsFreshSide hall.now.desk hall.now.latest side × (reader_side.seat.word ≡ hall.now.latest) }
             ensures { IfOk result (λ returned. AreCollectorsOf hall.entry.now.desk returned.passes × (returned.side.pass.0 ≡ hall.entry.now.desk.0)) }
         {
             let (first, second, third, fourth) = passes;
-            let reading = start_reader(scope, rt, hall, play, reader);
+            let reading = start_reader(scope, rt, hall, play, reader_side);
             let first = start_collector(scope, rt, alloc, hall, play, 0, first);
             let second = start_collector(scope, rt, alloc, hall, play, 1, second);
             let third = start_collector(scope, rt, alloc, hall, play, 2, third);
@@ -317,7 +337,14 @@ pub fn run<R: Threads + Wait + Sync, P: Play + Sync, S: Solver + Sync>(
 {
     let (desk, passes, pass) = Desk::new(alloc, setting.desk)?;
     let (sender, reader) = ring(alloc, setting.ring)?;
-    let (latest, seat, _) = Latest::new(alloc, 1)?;
+    let (latest, seat, mut seats) = Latest::new(alloc, 1)?;
+    let Some(reader_seat) = seats.pop() else {
+        return Err(AllocError);
+    };
+    let reader_side = ReaderSide {
+        reader,
+        seat: reader_seat,
+    };
     let engine = open_engine(alloc, setting.sessions)?;
     let hall = Hall {
         start: OnceLock::new(),
@@ -327,7 +354,16 @@ pub fn run<R: Threads + Wait + Sync, P: Play + Sync, S: Solver + Sync>(
     let side = AuditorSide { pass, sender, seat };
     let effort = setting.effort;
     let returned = run_threads(
-        rt, alloc, &hall, play, engine, solver, effort, passes, side, reader,
+        rt,
+        alloc,
+        &hall,
+        play,
+        engine,
+        solver,
+        effort,
+        passes,
+        side,
+        reader_side,
     )?;
     Ok(outcome_of(rt, hall, returned))
 }
