@@ -4,6 +4,7 @@
 
 mod drops;
 mod graph;
+mod limits;
 mod lines;
 mod near;
 mod nodes;
