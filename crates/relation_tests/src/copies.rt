@@ -2,7 +2,8 @@
 use crate::arrivals::{Turn, give, saturated_of};
 use crate::defined::is_as_defined;
 use crate::walks::tells_all;
-use clock_choices::{Branch, Saturated};
+use branches::Branch;
+use clock_choices::Saturated;
 use order_check::Parts;
 use std::alloc::Global;
 use std::process::Abort;

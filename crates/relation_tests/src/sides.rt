@@ -3,7 +3,8 @@ ghost use Rattle.std.specs.Prelude.{IfOk};
 ghost use Rattle.order_check.specs.Known.{IsChoice};
 
 use crate::fences::known_of;
-use clock_choices::{Branch, Saturated};
+use branches::Branch;
+use clock_choices::Saturated;
 use std::alloc::Global;
 use std::process::Abort;
 use std::test::Fail;

@@ -1,0 +1,4 @@
+pub mod AllThere
+pub mod BranchState
+pub mod Ranks
+pub mod Stacks
