@@ -13,15 +13,14 @@ use Rattle.order_check.specs.Known.{Known, ReadsBase, ReadsKey, WritesKey, by_ba
 use Rattle.session_clocks.specs.Graphs.{GraphState}
 use Rattle.session_clocks.specs.Reach as reach
 use Rattle.session_clocks.specs.Reach.{IsThere, Reaches}
-use Rattle.open_choices.specs.InGraphs.{AreNodesOf, reached_in}
 use Rattle.clock_choices.specs.declared.steps.Forced.{Forced}
 use Rattle.clock_choices.specs.CatchingUp.{GoesOn}
 use Rattle.clock_choices.specs.Closed.{AreKnown, IsClosed, IsPlain}
-use Rattle.clock_choices.specs.Extending.{Extends}
+use Rattle.clock_choices.specs.Extending.{Extends, reached_in}
 use Rattle.clock_choices.specs.Forcing.{Forces}
 use Rattle.clock_choices.specs.Growth.{IsNotedFor}
 use Rattle.clock_choices.specs.Held.{IsHeld}
-use Rattle.clock_choices.specs.Linking.{Brings, IsTxnLinked}
+use Rattle.clock_choices.specs.Linking.{AreNodesOf, Brings, IsTxnLinked}
 use Rattle.clock_choices.specs.Logging.{IsLogged}
 use Rattle.clock_choices.specs.Nodes.{IsArcThere}
 use Rattle.clock_choices.specs.Over.{IsOver}

@@ -14,11 +14,10 @@ use Rattle.session_clocks.specs.Graphs.{GraphState, HasNode}
 use Rattle.session_clocks.specs.Reach.{IsThere, Reaches, by_session, by_arc, through}
 use Rattle.key_index.specs.declared.reads.Read.{Read}
 use Rattle.key_index.specs.declared.runs.Run.{Run}
-use Rattle.open_choices.specs.InGraphs.{IsRunThere, reached_in}
-use Rattle.open_choices.specs.Opens.{choice_of}
 use Rattle.clock_choices.specs.declared.steps.Forced.{Forced}
-use Rattle.clock_choices.specs.Extending.{Extends}
-use Rattle.clock_choices.specs.Forcing.{Decides, ForcesOver, unforced, forced, HasGrown, IsForcedIn, IsGrowth, IsOther, IsRunSettled, IsSideSettled, IsTaken}
+use Rattle.clock_choices.specs.Extending.{Extends, reached_in}
+use Rattle.clock_choices.specs.Forcing.{Decides, ForcesOver, unforced, forced, HasGrown, IsForcedIn, IsGrowth, IsOther, IsRunSettled, IsSideSettled, IsTaken, choice_of}
+use Rattle.clock_choices.specs.RunsThere.{IsRunThere}
 use Rattle.clock_choices.specs.Steps.{conclusion_of}
 use Rattle.clock_choices.proofs.Extending.{on_new, on_old}
 

@@ -12,8 +12,8 @@ use Rattle.key_index.specs.declared.runs.Run.{Run}
 use Rattle.key_index.specs.RunsOfIds.{AreRunsOfIds}
 use Rattle.key_index.specs.Runs.{IsThird, IsFirstThird}
 use Rattle.key_index.specs.Writers.{IsRun}
-use Rattle.open_choices.specs.InGraphs.{IsRunThere}
 use Rattle.clock_choices.proofs.UpTo.{session_within}
+use Rattle.clock_choices.specs.RunsThere.{IsRunThere}
 use Rattle.clock_choices.specs.OrderedAmong.{AreOrdered, IsOrderedAmong}
 use Rattle.clock_choices.specs.Over.{IsOver}
 use Rattle.clock_choices.specs.Picks.{IsLinkedWithAll, IsLinkedWithRun}

@@ -1,7 +1,7 @@
 -- Arcs that are there from the start, as they are added.
-use Rattle.std.proofs.Common.{◌≡◌, ◌≢◌, ◌⊎◌, ℕ, ◌+◌, ◌<◌, ◌≤◌, List, [], ◌∷◌, ◌++◌, length, get_or, take, Option, Some, IsSomeAnd, sym, ap, subst, ◌∙◌, inl, inr, arith, append-nil, append_assoc, Contains, All}
-use Rattle.std.proofs.lemmas.Bool.{eqb-true}
-use Rattle.std.proofs.lemmas.List.{take_all}
+use Rattle.std.proofs.Common.{◌≡◌, ◌≢◌, ◌⊎◌, ℕ, ◌+◌, ◌<◌, ◌≤◌, List, [], ◌∷◌, ◌++◌, length, get_or, take, Option, Some, IsSomeAnd, refl, sym, ap, subst, ◌∙◌, inl, inr, arith, append-nil, append_assoc, Contains, All}
+use Rattle.std.proofs.lemmas.Bool.{cases_lt, eqb-true}
+use Rattle.std.proofs.lemmas.List.{get_or_past, take_all}
 use Rattle.std.proofs.lemmas.List.Elements.{All-append, All-contains, All-cons, All-more, All-nil, All-weaker, Contains-get_or}
 use Rattle.std.proofs.lemmas.Map.Views.{Contains-from_any}
 use Rattle.txn.specs.declared.transactions.TxnId.{TxnId}
@@ -20,15 +20,17 @@ use Rattle.session_clocks.specs.Reach.{IsThere, Reaches}
 use Rattle.key_index.specs.declared.indexing.Index.{Index}
 use Rattle.key_index.specs.declared.reads.Read as reads
 use Rattle.key_index.specs.declared.runs.Run.{Run}
-use Rattle.key_index.specs.Index.{AreRunsOf, WriterRuns, reads_of, runs_of}
+use Rattle.key_index.specs.Index.{AreRunsOf, IsInRuns, WriterRuns, reads_of, runs_of}
 use Rattle.key_index.specs.Indexing.{IsIndex}
 use Rattle.key_index.specs.Lists.{list_at}
 use Rattle.key_index.specs.Runs.{AreBelow, Climbs, IsFirstThird, IsThird}
-use Rattle.open_choices.specs.InGraphs.{AreNodesOf, IsRunThere, reached_in}
+use Rattle.key_index.specs.Writers.{IsRun}
+use Rattle.clock_choices.specs.RunsThere.{IsRunThere}
+use Rattle.clock_choices.specs.Extending.{reached_in}
 use Rattle.clock_choices.specs.Forcing.{IsGrowth}
-use Rattle.clock_choices.specs.Linking.{AreRunLinked, AreWritersLinked, Brings, HasEarlier, HasTwoBelow, IsBaseLinked, IsBeforeRun, IsLinked, IsSessionLinked, IsTxnLinked}
+use Rattle.clock_choices.specs.Linking.{AreNodesOf, AreRunLinked, AreWritersLinked, Brings, HasEarlier, HasTwoBelow, IsBaseLinked, IsBeforeRun, IsLinked, IsSessionLinked, IsTxnLinked}
 use Rattle.clock_choices.proofs.Growths.{growth_both, growth_none, then_along}
-use Rattle.clock_choices.proofs.Remaining.{reader_remains}
+use Rattle.clock_choices.proofs.Remaining.{reader_remains, writer_remains}
 use Rattle.clock_choices.proofs.Settled.{same_there}
 
 module _ (parts : Parts) where
@@ -146,8 +148,31 @@ module _ (parts : Parts) (R : TxnId → TxnId → Type 0) (index : Index) (is : 
   pub txn_linked : IsTxnLinked parts R first id
   txn_linked = record { reads = reads_linked; base = base_linked; writes = writes_linked }
 
+-- a number below another one that a list has at a place has the place within the list
+within_by : (xs : List ℕ) (i n : ℕ) → n < get_or xs i 0 → i < length xs
+within_by xs i n below = elim (cases_lt i (length xs)) [
+  | inl within ↦ within
+  | inr past ↦ absurd (let none = get_or_past xs i 0 past in omega (arith, none, below))
+]
+
 -- what is looked up is there
 module _ (parts : Parts) (gone received : List ℕ) (index : Index) (is : IsIndex parts index) (nodes : AreNodesOf parts gone received) where
+  writer_there : (key : ℕ) (id : TxnId) → IsInRuns (runs_of index.writers key) id → IsThere gone received id
+  writer_there key id found = nodes.there id (writer_remains parts id key ((is.writers key).each id found))
+
+  pub index_there : (key : ℕ) → All (IsRunThere gone received) (runs_of index.writers key)
+  index_there key k d within = run_there (get_or (runs_of index.writers key) k d) (Contains-get_or (runs_of index.writers key) k d within) (let runs = is.runs key in runs.each k d within)
+    where
+      run_there : (run : Run) → Contains (runs_of index.writers key) run → IsRun run → IsRunThere gone received run
+      run_there run there of =
+          let numbers = run.numbers.items in
+          let some = of.some in
+          let at : (number : ℕ) → Contains numbers number → IsThere gone received (record { session = run.session; number = number }) = λ number has. writer_there key (record { session = run.session; number = number }) (run, there, refl, has) in
+          let one = at (get_or numbers 0 0) (Contains-get_or numbers 0 0 some) in
+          let within = within_by received run.session (get_or numbers 0 0) one.1 in
+          let width = nodes.sessions in
+          record { session = omega (arith, within, width); climbs = of.climbs; there = at }
+
   pub base_readers : (key : ℕ) → All (λ reader. ReadsBase parts reader key) (list_at index.base key)
   base_readers key k d within = (is.base key).each (get_or (list_at index.base key) k d) (Contains-get_or (list_at index.base key) k d within)
 

@@ -1,5 +1,5 @@
 -- A cycle that arcs behind others close.
-use Rattle.std.proofs.Common.{◌≡◌, ◌⊎◌, ℕ, ◌+◌, ◌<◌, ◌≤◌, List, length, get_or, take, refl, sym, ap, ◌∙◌, inl, inr, subst, subst₂, arith, Contains}
+use Rattle.std.proofs.Common.{◌≡◌, ◌⊎◌, ℕ, ◌+◌, ◌<◌, ◌≤◌, List, [], length, get_or, take, refl, sym, ap, ◌∙◌, inl, inr, subst, subst₂, arith, Contains}
 use Rattle.std.proofs.lemmas.Bool.{cases_lt}
 use Rattle.std.proofs.lemmas.List.{get_or-take, get_or_default, length-take, length-take-le, take-take}
 use Rattle.std.proofs.lemmas.List.Elements.{Contains-get_or}
@@ -72,6 +72,16 @@ acyclic_on gone received arcs mark front is =
     let len = length-take mark arcs in
     let within = is.within in
     record { within = omega (arith, within, len); none = subst (λ (some : List Arc). HasNoCycle gone received some) (take-take front mark arcs (omega (arith, within, len))) is.none }
+
+-- steps along sessions alone lead to higher numbers
+along_sessions : (gone received : List ℕ) {a b : TxnId} → Reaches gone received [] a b → a.number < b.number
+along_sessions gone received (by_session a b first second same below) = below
+along_sessions gone received (by_arc arc there) = absurd (omega (arith, there.1))
+along_sessions gone received (through a b c first second) = let one = along_sessions gone received first in let two = along_sessions gone received second in omega (arith, one, two)
+
+-- no arc makes no cycle
+pub acyclic_none : (gone received : List ℕ) (arcs : List Arc) → AreAcyclic gone received arcs 0
+acyclic_none gone received arcs = record { within = omega arith; none = λ id there reached. let up = along_sessions gone received reached in omega (arith, up) }
 
 abbrev pub no_arc : Arc
 no_arc = Session (record { session = 0; number = 0 }) (record { session = 0; number = 0 })

@@ -16,8 +16,8 @@ use Rattle.key_index.specs.declared.runs.Run.{Run}
 use Rattle.key_index.specs.Index.{IsInRuns, runs_of}
 use Rattle.key_index.specs.Indexing.{IsIndex}
 use Rattle.key_index.specs.Runs.{AreBelow, IsLastThird}
-use Rattle.open_choices.specs.InGraphs.{IsRunThere}
 use Rattle.clock_choices.specs.Growth.{IsNotedFor}
+use Rattle.clock_choices.specs.RunsThere.{IsRunThere}
 use Rattle.clock_choices.specs.Passing.{IsEarlier, IsNotedInRun, IsNotedInRuns, IsPassed}
 use Rattle.clock_choices.proofs.Settled.{in_runs_there}
 

@@ -10,11 +10,10 @@ use Rattle.session_clocks.specs.Reach.{IsThere}
 use Rattle.key_index.specs.declared.reads.Read.{Read}
 use Rattle.key_index.specs.declared.runs.Run.{Run}
 use Rattle.key_index.specs.Index.{AreReadsOf, AreRunsOf, IsInRuns, IsRead}
-use Rattle.open_choices.specs.Opens.{choice_of}
-use Rattle.open_choices.specs.InGraphs.{IsRunThere}
 use Rattle.clock_choices.specs.Closed.{IsClosed}
 use Rattle.clock_choices.specs.Due.{AreNoted}
-use Rattle.clock_choices.specs.Forcing.{AreRunChoices, IsGrowth, IsOther, IsRunSettled}
+use Rattle.clock_choices.specs.Forcing.{AreRunChoices, IsGrowth, IsOther, IsRunSettled, choice_of}
+use Rattle.clock_choices.specs.RunsThere.{IsRunThere}
 use Rattle.clock_choices.specs.Pending.{IsClosedBut, IsDue, IsSettledBut}
 use Rattle.clock_choices.specs.Stages.{IsLeftTo, IsReadSettled, IsTurnSettled, IsTxnSettled}
 

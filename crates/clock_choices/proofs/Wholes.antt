@@ -11,13 +11,12 @@ use Rattle.order_check.specs.Cycles.{AreNew, IsArc}
 use Rattle.order_check.specs.Known.{Known}
 use Rattle.session_clocks.specs.Graphs.{GraphState}
 use Rattle.session_clocks.specs.Reach.{Reaches}
-use Rattle.open_choices.specs.InGraphs.{AreNodesOf, reached_in}
 use Rattle.clock_choices.specs.declared.steps.Forced.{Forced}
 use Rattle.clock_choices.specs.Closed.{AreKnown, IsClosed, IsPlain}
-use Rattle.clock_choices.specs.Extending.{Extends}
+use Rattle.clock_choices.specs.Extending.{Extends, reached_in}
 use Rattle.clock_choices.specs.Forcing.{Forces}
 use Rattle.clock_choices.specs.Held.{IsHeld}
-use Rattle.clock_choices.specs.Linking.{Brings, IsTxnLinked}
+use Rattle.clock_choices.specs.Linking.{AreNodesOf, Brings, IsTxnLinked}
 use Rattle.clock_choices.specs.Logging.{HasRight, IsLogged}
 use Rattle.clock_choices.specs.Over.{IsOver}
 use Rattle.clock_choices.specs.Pending.{IsClosedBut}

@@ -1,4 +1,4 @@
--- Graphs in which nothing leads back to itself.
+-- For private clauses: graphs in which nothing leads back to itself.
 use Rattle.std.specs.Prelude.{◌<◌, ◌≤◌, ℕ, List, length, take, slice_index_or}
 use Rattle.txn.specs.declared.transactions.TxnId.{TxnId}
 use Rattle.txn.specs.declared.choices.Arc.{Arc}

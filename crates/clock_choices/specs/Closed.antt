@@ -1,4 +1,4 @@
--- Relations in which nothing is left to force, and that what they reach is what is known.
+-- For private clauses: relations in which nothing is left to force, and that what they reach is what is known.
 use Rattle.std.specs.Prelude.{◌≢◌, ◌↔◌, ℕ, List, All, Contains}
 use Rattle.txn.specs.declared.transactions.TxnId.{TxnId}
 use Rattle.txn.specs.declared.transactions.Source.TheVariants.{By}

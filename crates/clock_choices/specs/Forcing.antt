@@ -2,6 +2,7 @@
 use Rattle.std.specs.Prelude.{◌≡◌, ◌⊎◌, ◌≤◌, ℕ, List, Option, [], ◌∷◌, ◌++◌, Contains, MatchOption, length}
 use Rattle.txn.specs.declared.transactions.TxnId.{TxnId}
 use Rattle.txn.specs.declared.choices.Arc.{Arc}
+use Rattle.txn.specs.declared.choices.Choice.{Choice}
 use Rattle.txn.specs.declared.choices.Side.{Side}
 use Rattle.txn.specs.declared.choices.Side.TheVariants.{First, Second}
 use Rattle.order_check.specs.declared.remainder.Parts.{Parts}
@@ -11,7 +12,6 @@ use Rattle.session_clocks.specs.Reach.{Reaches}
 use Rattle.key_index.specs.declared.reads.Read.{Read}
 use Rattle.key_index.specs.declared.runs.Run.{Run}
 use Rattle.key_index.specs.Runs.{IsThird}
-use Rattle.open_choices.specs.Opens.{choice_of}
 use Rattle.clock_choices.specs.declared.steps.Forced.{Forced}
 use Rattle.clock_choices.specs.Steps.{premise, premise_of, conclusion, conclusion_of, taken_arc}
 
@@ -41,6 +41,10 @@ pub record IsGrowth (R : TxnId → TxnId → Type 0) (told : List TxnId) (S : Tx
   pub stay : (id : TxnId) → Contains told id → Contains then id
   pub all : (a b : TxnId) → S a b → R a b ⊎ (Contains then a × Contains then b)
   pub only : (id : TxnId) → Contains then id → Contains told id ⊎ HasGrown R S id
+
+-- the choice of a read with another writer of its key
+abbrev pub choice_of : Read → TxnId → Choice
+choice_of read other = record { reader = read.reader; key = read.key; writer = read.writer; other = other }
 
 -- the run has another writer of the read's key
 abbrev pub IsOther : Read → Run → TxnId → Type 0

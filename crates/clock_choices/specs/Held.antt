@@ -1,4 +1,4 @@
--- What the relation of parts holds.
+-- For private clauses: what the relation of parts holds.
 use Rattle.std.specs.Prelude.{◌≡◌, ℕ, List, [], length}
 use Rattle.txn.specs.declared.choices.Arc.{Arc}
 use Rattle.order_check.specs.declared.remainder.Parts.{Parts}

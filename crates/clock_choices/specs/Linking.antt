@@ -6,15 +6,17 @@ use Rattle.txn.specs.declared.transactions.Source.TheVariants.{By}
 use Rattle.txn.specs.declared.choices.Arc.{Arc}
 use Rattle.order_check.specs.declared.remainder.Parts.{Parts}
 use Rattle.order_check.specs.Cycles.{IsArc}
+use Rattle.order_check.specs.Based.{Remains}
 use Rattle.order_check.specs.Known.{IsBaseSource, ReadsBase, ReadsKey, WritesKey}
 use Rattle.session_clocks.specs.Graphs.{GraphState}
+use Rattle.session_clocks.specs.Reach.{IsThere}
 use Rattle.key_index.specs.declared.indexing.Index.{Index}
 use Rattle.key_index.specs.declared.reads.Read.{Read}
 use Rattle.key_index.specs.declared.runs.Run.{Run}
 use Rattle.key_index.specs.Index.{WriterRuns, runs_of}
 use Rattle.key_index.specs.Lists.{list_at}
 use Rattle.key_index.specs.Runs.{IsThird}
-use Rattle.open_choices.specs.InGraphs.{reached_in}
+use Rattle.clock_choices.specs.Extending.{reached_in}
 use Rattle.clock_choices.specs.Forcing.{IsGrowth}
 
 -- right arcs are added, and whoever reaches more by them, or is reached by more, is due
@@ -53,6 +55,11 @@ AreWritersLinked R index session first key = All (IsSessionLinked R session firs
 -- a reader of the base stands before the other writers of the key
 abbrev pub IsBaseLinked : Parts → (TxnId → TxnId → Type 0) → WriterRuns → TxnId → ℕ × Source → Type 0
 IsBaseLinked parts R writers reader read = IsBaseSource parts read.0 read.1 → All (IsBeforeRun R reader) (runs_of writers read.0)
+
+-- all that remains is there
+pub record AreNodesOf (parts : Parts) (gone received : List ℕ) : Type 0 where
+  pub sessions : length received ≡ length gone
+  pub there : (id : TxnId) → Remains parts id → IsThere gone received id
 
 -- two writers of the key stand below the number in the session
 pub record HasEarlier (parts : Parts) (key session first : ℕ) : Type 0 where

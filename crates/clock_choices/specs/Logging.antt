@@ -1,4 +1,4 @@
--- What the steps of a relation say of its arcs.
+-- For private clauses: what the steps of a relation say of its arcs.
 use Rattle.std.specs.Prelude.{◌≡◌, ◌<◌, ◌≤◌, ℕ, List, [], All, Contains, length, take, slice_index_or}
 use Rattle.txn.specs.declared.transactions.TxnId.{TxnId}
 use Rattle.txn.specs.declared.choices.Arc.{Arc}

@@ -1,4 +1,4 @@
--- Graphs of what remains of parts.
+-- For private clauses: graphs of what remains of parts.
 use Rattle.std.specs.Prelude.{◌≡◌, ℕ, List, slice_index}
 use Rattle.order_check.specs.declared.remainder.Parts.{Parts}
 use Rattle.order_check.specs.Based.{mark_of, received_count}

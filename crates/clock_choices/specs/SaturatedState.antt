@@ -8,7 +8,7 @@ use Rattle.txn.specs.declared.choices.Side.{Side}
 use Rattle.txn.specs.declared.choices.ForceStep.{ForceStep}
 use Rattle.order_check.specs.declared.remainder.Parts.{Parts}
 use Rattle.order_check.specs.Based.{remaining_at}
-use Rattle.order_check.specs.Cycles.{AreNew, IsFullLogFrom, Sides, sides_after}
+use Rattle.order_check.specs.Cycles.{AreNew, sides_after}
 
 -- the parts that it is about, and the sides that were forced, in order, each without its cycle
 pub record SaturatedState : Type 0 where
@@ -34,7 +34,3 @@ LogsOnAfterCut parts old new = (sides_logged new ≡ filter (λ one. choice_rema
 -- the one transaction, at the place that its id says
 abbrev pub fragment_of : TxnId → Txn → Fragment
 fragment_of id txn = record { session = id.session; first = id.number; txns = txn ∷ [] }
-
--- there are cycles that the other sides would close, with which the steps are a full log
-abbrev pub AreFullFrom : Parts → Sides → Sides → List ForceStep → Type 0
-AreFullFrom parts taken start steps = (whole : List ForceStep) × (sides_logged whole ≡ sides_logged steps) × IsFullLogFrom parts taken start whole

@@ -79,7 +79,7 @@ pub(crate) fn on_any_cycle(graph: &Graph, front: usize) -> Option<TxnId>
 }
 
 /// How many arcs at the front are seen to make no cycle, where so many are known to make none.
-pub fn acyclic_in(graph: &Graph, front: usize) -> usize
+pub(crate) fn acyclic_in(graph: &Graph, front: usize) -> usize
     requires { AreAcyclic graph.now.gone graph.now.received graph.now.arcs front }
     ensures { AreAcyclic graph.now.gone graph.now.received graph.now.arcs result }
 {
@@ -174,7 +174,7 @@ fn cycle_through(
 }
 
 /// A cycle of right arcs, if there is one, where so many arcs at the front make none.
-pub fn cycle_in(
+pub(crate) fn cycle_in(
     alloc: Global,
     parts: &Parts,
     graph: &Graph,

@@ -8,7 +8,7 @@ ghost use Rattle.order_check.specs.Based.{Remains};
 ghost use Rattle.order_check.specs.Known.{Known};
 ghost use Rattle.session_clocks.specs.Graphs.{HasNode};
 ghost use Rattle.session_clocks.specs.Reach.{Reaches};
-ghost use Rattle.open_choices.specs.InGraphs.{IsRunThere};
+ghost use Rattle.clock_choices.specs.RunsThere.{IsRunThere};
 ghost use Rattle.clock_choices.specs.OrderedAmong.{IsOrderedAmong};
 ghost use Rattle.clock_choices.specs.Picks.{IsLinkedWithAll, IsLinkedWithRun, Picks, PicksOne};
 

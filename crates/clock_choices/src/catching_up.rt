@@ -19,7 +19,6 @@ use crate::saturating::saturate;
 use crate::spread::spread_of;
 use crate::steps::Forced;
 use key_index::{Index, add_txns};
-use open_choices::writers_are_there;
 use order_check::Parts;
 use session_clocks::Graph;
 use std::alloc::Global;
@@ -62,7 +61,6 @@ fn bring_up(
     ensures logged { OnOk result (AreNewBehind more.now (map bare steps.old.items) (map bare steps.new.items)) }
     ensures err { OnErr result (steps.new.items ≡ steps.old.items) }
 {
-    writers_are_there();
     let mut due = Due::new(alloc, graph.gone(), graph.received())?;
     due.note_all(new)?;
     link_txns(alloc, more, index, graph, &mut due, first, new)?;

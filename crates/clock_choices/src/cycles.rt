@@ -1,16 +1,13 @@
 // The cycle that the other side of a step would close.
-ghost use Rattle.std.specs.Prelude.{◌≡◌, ◌↔◌, ◌<◌, ◌++◌, ℕ, List, Contains, IfOk, IsTrue, MatchOption, OnOk, Some, length, map, slice_get, take};
+ghost use Rattle.std.specs.Prelude.{◌≡◌, ◌↔◌, ◌<◌, ◌++◌, ℕ, List, Contains, IfOk, IsTrue, MatchOption, OnOk};
 ghost use Rattle.txn.specs.declared.transactions.Source.{Source};
 ghost use Rattle.txn.specs.declared.choices.Arc.{Arc};
-ghost use Rattle.txn.specs.declared.choices.ForceStep.{ForceStep};
 ghost use Rattle.order_check.specs.Based.{Remains};
-ghost use Rattle.order_check.specs.Cycles.{IsForced, Sides, sides_after};
+ghost use Rattle.order_check.specs.Cycles.{IsForced, Sides};
 ghost use Rattle.order_check.specs.Known.{ReadsKey, WritesKey};
 ghost use Rattle.clock_choices.specs.Cycling.{AreLookedUp, Fits, IsRightOf};
-ghost use Rattle.clock_choices.specs.Held.{IsHeldFrom};
 ghost use Rattle.clock_choices.specs.Logging.{HasRight, IsStepFrom};
 ghost use Rattle.clock_choices.specs.Over.{IsOver};
-ghost use Rattle.clock_choices.specs.Steps.{bare};
 
 use crate::steps::Forced;
 use key_index::is_base_source;
@@ -129,22 +126,4 @@ pub(crate) fn cycle_of_step(
     cycle.push(Arc::Taken { from: to, to: from })?;
     push_right_arcs(&mut cycle, parts, path.as_slice())?;
     Ok(Sequence::new(cycle))
-}
-
-/// The cycle that the other side of the step at a place would close, where the sides before it are taken.
-pub fn cycle_at(
-    alloc: Global,
-    parts: &Parts,
-    graph: &Graph,
-    steps: &[Forced],
-    place: usize,
-) -> Result<Sequence<Arc>, NoMemory>
-    requires place { place < length steps.now }
-    requires held { (taken : Sides) × (start : Sides) × IsHeldFrom parts.now taken start graph.now.gone graph.now.received graph.now.arcs steps.now }
-    ensures { IfOk result (λ cycle. (taken start : Sides) → IsHeldFrom parts.now taken start graph.now.gone graph.now.received graph.now.arcs steps.now
-        → (step : ForceStep) → slice_get (map bare steps.now) place ≡ Some step
-        → IsForced parts.now (sides_after start (take place (map bare steps.now))) (record step { cycle = cycle })) }
-{
-    let step = steps[place];
-    cycle_of_step(alloc, parts, graph, step)
 }

@@ -1,30 +1,31 @@
-//! What every order has to keep, over session clocks.
+//! What every order has to keep, and the choices that it leaves open, over session clocks.
 #![tactic(auto)]
 
 mod acyclic;
 mod among;
+mod branch;
 mod by_sources;
 mod catching_up;
 mod cutting;
 mod cycles;
 mod due;
+mod first_open;
 mod laws;
 mod linking;
 mod nodes;
+mod open_choices;
 mod passing;
+mod ranks;
 mod saturated;
 mod saturating;
 mod settling;
-mod sides;
+mod spans;
 mod spread;
 mod steps;
 mod whole;
 
-pub use acyclic::{acyclic_in, cycle_in};
-pub use cycles::cycle_at;
-pub use laws::{
-    closed_reaches_known, held_is_full, known_remains, remains_by_number, remains_is_there,
-};
+pub use branch::Branch;
+pub use open_choices::OpenChoices;
+pub use ranks::Rank;
 pub use saturated::Saturated;
-pub use sides::add_side;
 pub use steps::Forced;

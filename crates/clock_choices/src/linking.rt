@@ -10,17 +10,16 @@ ghost use Rattle.session_clocks.specs.Graphs.{HasNode};
 ghost use Rattle.key_index.specs.declared.runs.Run.{Run};
 ghost use Rattle.key_index.specs.Index.{AreRunsOf, IsRead, runs_of};
 ghost use Rattle.key_index.specs.Indexing.{IsIndex};
-ghost use Rattle.open_choices.specs.InGraphs.{AreNodesOf, IsRunThere, reached_in};
-ghost use Rattle.clock_choices.specs.Extending.{Extends};
+ghost use Rattle.clock_choices.specs.Extending.{Extends, reached_in};
 ghost use Rattle.clock_choices.specs.Forcing.{IsGrowth};
-ghost use Rattle.clock_choices.specs.Linking.{AreWritersLinked, Brings, IsBaseLinked, IsBeforeRun, IsLinked, IsSessionLinked, IsTxnLinked};
+ghost use Rattle.clock_choices.specs.RunsThere.{IsRunThere};
+ghost use Rattle.clock_choices.specs.Linking.{AreNodesOf, AreWritersLinked, Brings, IsBaseLinked, IsBeforeRun, IsLinked, IsSessionLinked, IsTxnLinked};
 
 use crate::due::Due;
 use key_index::{
     Index, Read, Run, count_below, first_from, is_base_source, is_in_runs, list_of, reads_of,
     runs_of,
 };
-use open_choices::writers_are_there;
 use order_check::Parts;
 use session_clocks::Graph;
 use std::alloc::Global;
@@ -284,7 +283,6 @@ fn link_writes(
     ensures brings { OnOk result (Brings parts.now graph.old due.old graph.new due.new
         × All (AreWritersLinked (reached_in graph.new) index.now session first) keys.now) }
 {
-    writers_are_there();
     for key in keys {
         let runs = runs_of(&index.writers, *key);
         let readers = list_of(&index.base, *key);
@@ -310,7 +308,6 @@ fn link_txn(
     ensures brings { OnOk result (Brings parts.now graph.old due.old graph.new due.new
         × IsTxnLinked parts.now (reached_in graph.new) first id) }
 {
-    writers_are_there();
     let Some(txn) = parts.remaining_at(id) else {
         unreachable!()
     };

@@ -8,13 +8,13 @@ ghost use Rattle.session_clocks.specs.Reach.{Reaches};
 ghost use Rattle.key_index.specs.Index.{runs_of};
 ghost use Rattle.key_index.specs.Indexing.{IsIndex};
 ghost use Rattle.key_index.specs.Runs.{Climbs};
-ghost use Rattle.open_choices.specs.InGraphs.{AreNodesOf, IsRunThere};
 ghost use Rattle.clock_choices.specs.Growth.{IsNotedFor};
+ghost use Rattle.clock_choices.specs.RunsThere.{IsRunThere};
+ghost use Rattle.clock_choices.specs.Linking.{AreNodesOf};
 ghost use Rattle.clock_choices.specs.Passing.{IsEarlier, IsNotedInRun, IsNotedInRuns, IsPassed};
 
 use crate::due::Due;
 use key_index::{Index, Run, count_below, last_below, runs_of};
-use open_choices::writers_are_there;
 use order_check::Parts;
 use session_clocks::Graph;
 use txn::{NoMemory, TxnId};
@@ -146,7 +146,6 @@ fn note_txn(
     ensures stay { OnOk result ((other : TxnId) → Contains due.old other → Contains due.new other) }
     ensures noted { OnOk result (IsNotedFor parts.now (Reaches graph.now.gone graph.now.received graph.now.arcs) (Contains due.new) id) }
 {
-    writers_are_there();
     let Some(txn) = parts.remaining_at(id) else {
         unreachable!()
     };

@@ -11,7 +11,7 @@ ghost use Rattle.order_check.specs.Known.{AreOpenChoices, Known};
 ghost use Rattle.order_check.specs.StandsFor.{parts_closed, parts_with};
 ghost use Rattle.session_clocks.specs.Reach.{Reaches};
 ghost use Rattle.key_index.specs.SharedIndexes.{IsIndexIn};
-ghost use Rattle.open_choices.specs.CountedChoices.{AreFirstOpen};
+ghost use Rattle.clock_choices.specs.CountedChoices.{AreFirstOpen};
 ghost use Rattle.clock_choices.specs.Held.{IsHeld};
 ghost use Rattle.clock_choices.specs.Over.{IsOver};
 ghost use Rattle.clock_choices.specs.SaturatedState.{AreNewBehind, LogsOnAfterCut, fragment_of, sides_logged};
@@ -20,12 +20,12 @@ ghost use Rattle.clock_choices.specs.Steps.{bare};
 use crate::catching_up::catch_up;
 use crate::cutting::left_steps;
 use crate::cycles::cycle_of_step;
+use crate::open_choices::{Listed, OpenChoices, all_of, listed_for, open_of};
 use crate::steps::Forced;
 use crate::whole::relation_of;
 use key_index::{
     SharedIndex, index_of, kept_index, own_index, remaining_ids_of, shared_index, shared_or_none,
 };
-use open_choices::{Listed, OpenChoices, all_of, listed_for, open_of};
 use order_check::{
     Parts, cut_keeps_known, cut_keeps_received, cut_leaves_the_rest, cut_moves_base,
 };
@@ -53,8 +53,8 @@ impl Model for Saturated {
     ghost use Rattle.order_check.specs.Codes.{coded_last};
     ghost use Rattle.order_check.specs.Good.{IsGood};
     ghost use Rattle.key_index.specs.SharedIndexes.{IsIndexIn};
-    ghost use Rattle.open_choices.specs.KeptLists.{IsListed};
     ghost use Rattle.clock_choices.specs.Held.{IsHeld};
+    ghost use Rattle.clock_choices.specs.KeptLists.{IsListed};
     ghost use Rattle.clock_choices.specs.SaturatedState.{SaturatedState};
     ghost use Rattle.clock_choices.specs.Steps.{bare};
 
@@ -117,7 +117,7 @@ impl Saturated {
     }
 
     /// Whole copies of the parts, of the graph and of the steps.
-    pub fn copies(&self, alloc: Global) -> Result<(Parts, Graph, Vec<Forced>), NoMemory>
+    pub(crate) fn copies(&self, alloc: Global) -> Result<(Parts, Graph, Vec<Forced>), NoMemory>
         ensures parts { IfOk result (λ copies. copies.0 ≡ self.now.parts) }
         ensures log { IfOk result (λ copies. map bare copies.2.items ≡ self.now.log) }
         ensures good { IfOk result (λ copies. IsGood copies.0) }
@@ -130,7 +130,7 @@ impl Saturated {
     }
 
     /// What is looked up of the parts, shared.
-    pub fn index(&self, alloc: Global) -> Result<SharedIndex, NoMemory>
+    pub(crate) fn index(&self, alloc: Global) -> Result<SharedIndex, NoMemory>
         ensures { IfOk result (IsIndexIn self.now.parts) }
     {
         shared_index(alloc, &self.index, &self.parts)

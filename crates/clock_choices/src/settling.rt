@@ -1,22 +1,32 @@
 // Sides of the choices of a read that are forced. In each session one writer of the key decides for a side: the last one before the reader has
 // to stand before the writer, and the first one behind the writer behind the reader. The others follow by the session's order.
-ghost use Rattle.std.specs.Prelude.{⊤, All, MatchOption, OnOk};
+ghost use Rattle.std.specs.Prelude.{◌≡◌, ⊤, All, MatchOption, OnOk};
 ghost use Rattle.txn.specs.declared.choices.Side.TheVariants.{First, Second};
 ghost use Rattle.txn.specs.declared.transactions.TxnId.{TxnId};
 ghost use Rattle.order_check.specs.declared.remainder.Parts.{Parts};
 ghost use Rattle.session_clocks.specs.Graphs.{HasNode};
 ghost use Rattle.key_index.specs.declared.runs.Run.{Run};
-ghost use Rattle.open_choices.specs.InGraphs.{IsRunThere, reached_in};
-ghost use Rattle.open_choices.specs.Opens.{choice_of};
-ghost use Rattle.clock_choices.specs.Extending.{Extends};
-ghost use Rattle.clock_choices.specs.Forcing.{AreRunChoices, Decides, Forces, IsForcedIn, IsGrowth, IsRunSettled, IsSideSettled};
+ghost use Rattle.clock_choices.specs.Extending.{Extends, reached_in};
+ghost use Rattle.clock_choices.specs.Forcing.{AreRunChoices, Decides, Forces, IsForcedIn, IsGrowth, IsRunSettled, IsSideSettled, choice_of};
+ghost use Rattle.clock_choices.specs.RunsThere.{IsRunThere};
 
 use crate::steps::Forced;
 use key_index::{Read, Run, count_below, count_below_near, first_behind, last_in};
-use open_choices::choice_of;
 use session_clocks::Graph;
 use std::alloc::Global;
 use txn::{Arc, Choice, NoMemory, Side, TxnId};
+
+/// The choice of a read with another writer of its key.
+pub(crate) fn choice_of(read: Read, other: TxnId) -> Choice
+    ensures { result ≡ choice_of read other }
+{
+    Choice {
+        reader: read.reader,
+        key: read.key,
+        writer: read.writer,
+        other,
+    }
+}
 
 /// The last writer in the run that stands before the reader, if it doesn't stand before the read's writer yet. It also says how many of the
 /// numbers stand before the reader, if that was looked up: nothing is promised of it.

@@ -16,7 +16,6 @@ use crate::saturating::saturate;
 use crate::spread::spread_of;
 use crate::steps::Forced;
 use key_index::{Index, remaining_ids_of};
-use open_choices::writers_are_there;
 use order_check::Parts;
 use session_clocks::Graph;
 use std::alloc::Global;
@@ -38,7 +37,6 @@ fn bring_all(
     ensures held { OnOk result (IsHeld parts.now graph.new.gone graph.new.received graph.new.arcs steps.new.items) }
     ensures new { OnOk result (AreNew parts.now [] (map bare steps.new.items)) }
 {
-    writers_are_there();
     let mut due = Due::new(alloc, graph.gone(), graph.received())?;
     due.note_all(ids)?;
     // Each reader of the base has its turn: no writer has to look for those.

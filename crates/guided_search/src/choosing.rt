@@ -2,7 +2,7 @@
 ghost use Rattle.std.specs.Prelude.{IsTrue};
 ghost use Rattle.order_check.specs.Known.{IsChoice};
 
-use branches::Branch;
+use clock_choices::Branch;
 use order_check::Parts;
 use std::alloc::Global;
 use std::collections::BTreeMap;

@@ -1,9 +1,9 @@
 //! Why a node of the search has no order: a tree, and the sides that its cycles use. Nothing is promised of it: the whole tree is checked.
 ghost use Rattle.std.specs.Prelude.{◌≡◌, ◌<◌, length};
-ghost use Rattle.branches.specs.BranchState.{last_steps};
+ghost use Rattle.clock_choices.specs.BranchState.{last_steps};
 
 use crate::choosing::Recent;
-use branches::Branch;
+use clock_choices::Branch;
 use refutation::{Leaf, Tree};
 use std::alloc::Global;
 use std::collections::BTreeSet;

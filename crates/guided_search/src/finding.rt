@@ -6,7 +6,7 @@ ghost use Rattle.guided_search.specs.Believed.{IsBelieved};
 use crate::guided::Finder;
 use crate::running::{Heeds, run_of};
 use crate::searching::{Found, search_within};
-use branches::Branch;
+use clock_choices::Branch;
 use order_check::{Parts, explains};
 use polygraph::{Answer, Problem};
 use refutation::{Tree, check};

@@ -1,7 +1,7 @@
 //! The search: it keeps the splits that it stands below in a list, so that it takes little of the stack. Nothing is promised of what it finds.
 use crate::choosing::{Places, Recent, is_choice, next_choice};
 use crate::conflicts::{Conflict, arc_of, other_side};
-use branches::Branch;
+use clock_choices::Branch;
 use polygraph::Problem;
 use refutation::Tree;
 use std::alloc::Global;

@@ -13,7 +13,7 @@ use Rattle.order_check.specs.Known.{Known, IsChoice, IsOpen, AreOpenChoices, by_
 use Rattle.order_check.specs.Search.{Outcome, used_up, Scans}
 use Rattle.order_check.specs.SearchLaws.{ScansAreBounded}
 use Rattle.refutation.specs.Joining.{cube_sides}
-use Rattle.branches.specs.BranchState.{BranchState, assumed}
+use Rattle.clock_choices.specs.BranchState.{BranchState, assumed}
 use Rattle.polygraph.specs.ProblemState.{ProblemState, IsProblem}
 use Rattle.polygraph.specs.declared.solving.Cube.{Cube}
 use Rattle.polygraph.specs.declared.solving.Cube.TheVariants.{Yes, No, Spent}

@@ -17,8 +17,8 @@ use Rattle.order_check.specs.Explains.{KeepsSessions}
 use Rattle.order_check.specs.Known.{Known, by_session, through}
 use Rattle.order_check.specs.Search.{HasCycle}
 use Rattle.order_check.specs.TakenSides.{KeepsAllKnown}
-use Rattle.branches.specs.declared.ranks.Rank.{Rank}
-use Rattle.branches.specs.Ranks.{Counts, none, one_more, not_this, ids_of, AreRanked}
+use Rattle.clock_choices.specs.declared.ranks.Rank.{Rank}
+use Rattle.clock_choices.specs.Ranks.{Counts, none, one_more, not_this, ids_of, AreRanked}
 use Rattle.polygraph.proofs.StableSort.{Each, Climbs, each_at, each_filter, sort_keeps}
 
 -- where one property implies another, no more have it

@@ -20,7 +20,7 @@ use Rattle.refutation.specs.Laws.{ForcedWithMore, AfterBoth, RefutesWithMore}
 use Rattle.refutation.specs.Pruned.{AreAmong}
 use Rattle.clock_choices.specs.declared.steps.Forced.{Forced}
 use Rattle.clock_choices.specs.Steps.{bare}
-use Rattle.branches.specs.BranchState.{BranchState, Level, arc_of, assumed, all_taken, last_steps, taken_before}
+use Rattle.clock_choices.specs.BranchState.{BranchState, Level, arc_of, assumed, all_taken, last_steps, taken_before}
 use Rattle.polygraph.specs.declared.found.Found.{Found}
 use Rattle.polygraph.specs.declared.found.Found.TheVariants.{Yes, No, Spent}
 use Rattle.polygraph.specs.Shown.{told_of, IsShown, StandsAbove, IsAbove}

@@ -13,7 +13,7 @@ use Rattle.refutation.specs.declared.trees.Leaf.{Leaf}
 use Rattle.refutation.specs.declared.trees.Leaf.TheVariants as leaves
 use Rattle.refutation.specs.Pruned.{Stands}
 use Rattle.refutation.specs.Refutes.{IsClosed, Refutes, depth_of}
-use Rattle.branches.specs.BranchState.{BranchState, arc_of, assumed, all_taken, last_steps, taken_before}
+use Rattle.clock_choices.specs.BranchState.{BranchState, arc_of, assumed, all_taken, last_steps, taken_before}
 use Rattle.polygraph.specs.declared.bad_reads.BadRead.{BadRead}
 use Rattle.polygraph.specs.declared.bad_reads.BadRead.TheVariants as bad_reads
 use Rattle.polygraph.specs.declared.found.Found.{Found}

@@ -5,7 +5,7 @@ ghost use Rattle.order_check.specs.Based.{remaining_at};
 ghost use Rattle.polygraph.specs.Reading.{IsGoodRead, AreGoodReads, HaveNoBadRead};
 ghost use Rattle.polygraph.specs.Shown.{IsBadRead, leaf_of};
 
-use branches::Branch;
+use clock_choices::Branch;
 use order_check::Parts;
 use refutation::Leaf;
 use std::alloc::Global;

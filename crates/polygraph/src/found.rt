@@ -4,7 +4,7 @@ ghost use Rattle.polygraph.specs.Shown.{outcome_of, OrderKeeps, told_of, StandsA
 
 use crate::solving::Cube;
 use crate::steps::{below_all, below_last};
-use branches::Branch;
+use clock_choices::Branch;
 use refutation::Pruned;
 use std::alloc::Global;
 use txn::{NoMemory, Sequence, TxnId};

@@ -4,10 +4,10 @@ ghost use Rattle.std.specs.List.Sorted.{IsNonDecreasingBy, IsPermutation, IsStab
 ghost use Rattle.order_check.specs.Explains.{KeepsSessions};
 ghost use Rattle.order_check.specs.Search.{HasCycle};
 ghost use Rattle.order_check.specs.TakenSides.{KeepsAllKnown};
-ghost use Rattle.branches.specs.BranchState.{assumed};
-ghost use Rattle.branches.specs.Ranks.{ids_of};
+ghost use Rattle.clock_choices.specs.BranchState.{assumed};
+ghost use Rattle.clock_choices.specs.Ranks.{ids_of};
 
-use branches::{Branch, Rank};
+use clock_choices::{Branch, Rank};
 use std::alloc::Global;
 use txn::{NoMemory, Sequence, TxnId};
 

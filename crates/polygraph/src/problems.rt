@@ -6,8 +6,7 @@ ghost use Rattle.polygraph.specs.Outcomes.{split_choices};
 ghost use Rattle.polygraph.specs.ProblemState.{IsProblem};
 
 use crate::stopping::{Stop, StopWord};
-use clock_choices::Saturated;
-use open_choices::OpenChoices;
+use clock_choices::{OpenChoices, Saturated};
 use order_check::{Parts, front_parts};
 use std::alloc::{AllocError, Global};
 use std::marker::Model;

@@ -6,14 +6,14 @@ ghost use Rattle.order_check.specs.Explains.{Explains};
 ghost use Rattle.order_check.specs.Known.{IsChoice, IsOpen};
 ghost use Rattle.order_check.specs.Search.{Scans, IsHopeless, IsFirstOpen};
 ghost use Rattle.order_check.specs.TakenSides.{KeepsSides};
-ghost use Rattle.branches.specs.BranchState.{arc_of, assumed};
+ghost use Rattle.clock_choices.specs.BranchState.{arc_of, assumed};
 ghost use Rattle.polygraph.specs.Shown.{IsBadRead, IsClosedBy, outcome_of, OrderKeeps, told_of, IsShown, IsShownBeyond};
 
 use crate::bad_reads::{BadRead, leaf_of};
 use crate::found::{Found, above_last};
 use crate::nodes::Nodes;
 use crate::ordering::order_of;
-use branches::Branch;
+use clock_choices::Branch;
 use order_check::keeping_explains;
 use refutation::{Leaf, Pruned};
 use std::alloc::Global;

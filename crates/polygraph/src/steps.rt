@@ -6,11 +6,10 @@ ghost use Rattle.polygraph.specs.Shown.{taken_up_to};
 ghost use Rattle.refutation.specs.Above.{StandsBelow};
 ghost use Rattle.refutation.specs.Pruned.{Stands};
 ghost use Rattle.refutation.specs.Refutes.{depth_of};
-ghost use Rattle.branches.specs.BranchState.{assumed, all_taken, last_steps, taken_before};
+ghost use Rattle.clock_choices.specs.BranchState.{assumed, all_taken, last_steps, taken_before};
 ghost use Rattle.clock_choices.specs.Steps.{bare};
 
-use branches::Branch;
-use clock_choices::Forced;
+use clock_choices::{Branch, Forced};
 use refutation::{Above, Pruned, after_both, forced_with_more};
 use std::alloc::Global;
 use txn::{ForceStep, NoMemory};

@@ -2,8 +2,7 @@
 use crate::arrivals::{Turn, give, saturated_of};
 use crate::defined::is_as_defined;
 use crate::walks::tells_all;
-use branches::Branch;
-use clock_choices::Saturated;
+use clock_choices::{Branch, Saturated};
 use order_check::Parts;
 use std::alloc::Global;
 use std::process::Abort;

@@ -3,8 +3,7 @@ ghost use Rattle.std.specs.Prelude.{IfOk};
 ghost use Rattle.order_check.specs.Known.{IsChoice};
 
 use crate::fences::known_of;
-use branches::Branch;
-use clock_choices::Saturated;
+use clock_choices::{Branch, Saturated};
 use std::alloc::Global;
 use std::process::Abort;
 use std::test::Fail;

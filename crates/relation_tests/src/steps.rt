@@ -1,9 +1,8 @@
 //! Steps by which sides were forced, each with the cycle that its other side would close, and whether they are as they are defined.
 ghost use Rattle.std.specs.Prelude.{◌≡◌, ◌<◌, length};
-ghost use Rattle.branches.specs.BranchState.{last_steps};
+ghost use Rattle.clock_choices.specs.BranchState.{last_steps};
 
-use branches::Branch;
-use clock_choices::{Forced, Saturated};
+use clock_choices::{Branch, Forced, Saturated};
 use std::alloc::Global;
 use std::process::Abort;
 use test_histories::{Facts, Pair, Relation, side_of};

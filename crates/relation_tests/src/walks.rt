@@ -4,8 +4,7 @@ ghost use Rattle.order_check.specs.Known.{IsChoice};
 
 use crate::arrivals::saturated_of;
 use crate::steps::{are_forced, forced_steps, is_cycle, side_of_step};
-use branches::Branch;
-use clock_choices::Saturated;
+use clock_choices::{Branch, Saturated};
 use order_check::Parts;
 use std::alloc::Global;
 use std::process::Abort;

@@ -3,18 +3,19 @@ use Rattle.txn.specs.declared.transactions.TxnId.{TxnId}
 use Rattle.session_clocks.specs.Reach.{IsThere}
 use Rattle.key_index.specs.declared.reads.Read.{Read}
 use Rattle.key_index.specs.Index.{reads_of, runs_of}
-use Rattle.open_choices.specs.InGraphs.{AreNodesOf, IsRunThere, reached_in}
 use Rattle.clock_choices.specs.declared.steps.Forced.{Forced}
+use Rattle.clock_choices.specs.Extending.{reached_in}
 use Rattle.clock_choices.specs.Forcing.{Forces}
 use Rattle.clock_choices.specs.Growth.{IsNotedFor}
 use Rattle.clock_choices.specs.Held.{IsHeld}
-use Rattle.clock_choices.specs.Linking.{IsTxnLinked}
+use Rattle.clock_choices.specs.RunsThere.{IsRunThere}
+use Rattle.clock_choices.specs.Linking.{AreNodesOf, IsTxnLinked}
 use Rattle.clock_choices.specs.Pending.{IsClosedBut}
 use Rattle.clock_choices.specs.SaturatedState.{AreNewBehind}
 use Rattle.clock_choices.specs.Steps.{bare}
 use Rattle.clock_choices.proofs.CaughtUp.{closed_but_due, held_more, logged_more, new_all_remain, nodes_of}
 use Rattle.clock_choices.proofs.Extending.{on_new}
-use Rattle.clock_choices.proofs.Links.{reads_are}
+use Rattle.clock_choices.proofs.Links.{index_there, reads_are}
 use Rattle.clock_choices.proofs.catching_up.bring_up.Goals as goal
 use Rattle.clock_choices.proofs.catching_up.bring_up.Goals.{After-drop-forced-2}
 
@@ -47,7 +48,7 @@ saturate-requires c =
     let index = c.args.index.now in
     let nodes = nodes_of parts more graph.gone few graph.received graph.arcs c.args.steps.now.items session count c.args.new.now goes in
     rw c.deref.ensures.value record {
-      runs = λ key. on_new (λ gone received. All (IsRunThere gone received) (runs_of index.writers key)) c.link_txns.ensures.extends (c.writers_are_there.ensures more graph.gone graph.received index c.requires.index nodes key);
+      runs = λ key. on_new (λ gone received. All (IsRunThere gone received) (runs_of index.writers key)) c.link_txns.ensures.extends (index_there more graph.gone graph.received index c.requires.index nodes key);
       readers = λ id. on_new (λ gone received. All (λ (read : Read). IsThere gone received read.reader) (reads_of index.reads.items id)) c.link_txns.ensures.extends (reads_are more graph.gone graph.received index c.requires.index nodes id);
     }
 

@@ -1,6 +1,5 @@
 use Rattle.std.proofs.Common.{All, take}
-use Rattle.open_choices.specs.InGraphs.{reached_in}
-use Rattle.clock_choices.specs.Extending.{Extends}
+use Rattle.clock_choices.specs.Extending.{Extends, reached_in}
 use Rattle.clock_choices.specs.Linking.{Brings, IsBaseLinked}
 use Rattle.clock_choices.proofs.linking.link_base_reads.Given as goal
 

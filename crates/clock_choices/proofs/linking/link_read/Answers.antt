@@ -6,7 +6,7 @@ use Rattle.txn.specs.declared.choices.Arc.TheVariants.{Read}
 use Rattle.key_index.specs.declared.runs.Run.{Run}
 use Rattle.key_index.specs.Index.{runs_of}
 use Rattle.key_index.specs.Runs.{Climbs}
-use Rattle.open_choices.specs.InGraphs.{IsRunThere}
+use Rattle.clock_choices.specs.RunsThere.{IsRunThere}
 use Rattle.clock_choices.proofs.Growths.{by_last, on_ok_two}
 use Rattle.clock_choices.proofs.Links.{brings_none, brings_one}
 use Rattle.clock_choices.proofs.Settled.{in_runs_there}

@@ -2,16 +2,17 @@ use Rattle.std.proofs.Common.{All, sym}
 use Rattle.std.proofs.lemmas.Result.{on_ok_weaker}
 use Rattle.session_clocks.specs.Reach.{IsThere}
 use Rattle.key_index.specs.Index.{runs_of}
-use Rattle.open_choices.specs.InGraphs.{AreNodesOf, IsRunThere}
+use Rattle.clock_choices.specs.RunsThere.{IsRunThere}
+use Rattle.clock_choices.specs.Linking.{AreNodesOf}
 use Rattle.clock_choices.proofs.Extending.{extends_both, on_new}
-use Rattle.clock_choices.proofs.Links.{all_read, reads_are, txn_brings}
+use Rattle.clock_choices.proofs.Links.{all_read, index_there, reads_are, txn_brings}
 use Rattle.clock_choices.proofs.linking.link_txn.Goals as goal
 
 pub link_reads-requires : goal.link_reads-requires
 link_reads-requires c =
     let graph = c.args.graph.now in
     rw (c.reads_of-reads.ensures, c.deref.ensures.value) record {
-      runs = c.writers_are_there.ensures c.args.parts.now graph.gone graph.received c.args.index.now c.requires.index c.requires.nodes;
+      runs = index_there c.args.parts.now graph.gone graph.received c.args.index.now c.requires.index c.requires.nodes;
       readers = reads_are c.args.parts.now graph.gone graph.received c.args.index.now c.requires.index c.requires.nodes c.args.id;
     }
 
@@ -21,7 +22,7 @@ link_base_reads-requires c =
     let parts = c.args.parts.now in
     let index = c.args.index.now in
     record {
-      runs = λ key. on_new (λ gone received. All (IsRunThere gone received) (runs_of index.writers key)) c.link_reads.ensures.extends (c.writers_are_there.ensures parts graph.gone graph.received index c.requires.index c.requires.nodes key);
+      runs = λ key. on_new (λ gone received. All (IsRunThere gone received) (runs_of index.writers key)) c.link_reads.ensures.extends (index_there parts graph.gone graph.received index c.requires.index c.requires.nodes key);
       writers = c.requires.index.writers;
       reader = on_new (λ gone received. IsThere gone received c.args.id) c.link_reads.ensures.extends (c.requires.nodes.there c.args.id c.requires.remains);
       reads = rw c.as_slice-list.ensures (all_read parts c.args.id c.in-Some.txn.now (sym c.in-Some.ensures));

@@ -1,8 +1,8 @@
 use Rattle.std.proofs.Common.{refl}
 use Rattle.std.proofs.lemmas.List.Elements.{All-nil}
 use Rattle.txn.specs.declared.transactions.TxnId.{TxnId}
-use Rattle.open_choices.specs.InGraphs.{AreNodesOf, reached_in}
-use Rattle.clock_choices.specs.Linking.{IsTxnLinked}
+use Rattle.clock_choices.specs.Extending.{reached_in}
+use Rattle.clock_choices.specs.Linking.{AreNodesOf, IsTxnLinked}
 use Rattle.clock_choices.proofs.Extending.{extends_both, extends_none, on_new}
 use Rattle.clock_choices.proofs.Links.{all_taken, brings_more, brings_none, txn_linked_stays}
 use Rattle.clock_choices.proofs.linking.link_txns.Goals as goal

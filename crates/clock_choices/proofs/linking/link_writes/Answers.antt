@@ -4,10 +4,11 @@ use Rattle.txn.specs.declared.transactions.TxnId.{TxnId}
 use Rattle.session_clocks.specs.Reach.{IsThere}
 use Rattle.key_index.specs.Index.{runs_of}
 use Rattle.key_index.specs.Lists.{list_at}
-use Rattle.open_choices.specs.InGraphs.{IsRunThere, reached_in}
+use Rattle.clock_choices.specs.Extending.{reached_in}
+use Rattle.clock_choices.specs.RunsThere.{IsRunThere}
 use Rattle.clock_choices.specs.Linking.{AreWritersLinked}
 use Rattle.clock_choices.proofs.Extending.{extends_both, extends_none, on_new}
-use Rattle.clock_choices.proofs.Links.{all_taken, base_readers, brings_more, brings_none, readers_there, writers_linked_stay}
+use Rattle.clock_choices.proofs.Links.{all_taken, base_readers, brings_more, brings_none, index_there, readers_there, writers_linked_stay}
 use Rattle.clock_choices.proofs.linking.link_writes.Goals as goal
 
 pub loop-key-init : goal.loop-key-init
@@ -26,7 +27,7 @@ link_writer-requires c =
     let index = c.args.index.now in
     let key = get_or c.args.keys.now c.loop-key.key-index 0 in
     rw (c.runs_of-runs.ensures, c.list_of-readers.ensures) record {
-      runs = on_new (λ gone received. All (IsRunThere gone received) (runs_of index.writers key)) was.extends (c.writers_are_there.ensures parts graph.gone graph.received index c.requires.index c.requires.nodes key);
+      runs = on_new (λ gone received. All (IsRunThere gone received) (runs_of index.writers key)) was.extends (index_there parts graph.gone graph.received index c.requires.index c.requires.nodes key);
       readers = on_new (λ gone received. All (IsThere gone received) (list_at index.base key)) was.extends (readers_there parts graph.gone graph.received index c.requires.index c.requires.nodes key);
     }
 

@@ -1,12 +1,13 @@
 use Rattle.std.proofs.Common.{sym}
 use Rattle.std.proofs.lemmas.Result.{on_ok_weaker}
 use Rattle.session_clocks.specs.Reach.{Reaches}
+use Rattle.clock_choices.proofs.Links.{index_there}
 use Rattle.clock_choices.proofs.Passes.{noted_txn}
 use Rattle.clock_choices.proofs.passing.note_txn.Goals as goal
 
 pub note_keys-requires : goal.note_keys-requires
 note_keys-requires c = record {
-  runs = c.writers_are_there.ensures c.args.parts.now c.args.graph.now.gone c.args.graph.now.received c.args.index.now c.requires.index c.requires.nodes;
+  runs = index_there c.args.parts.now c.args.graph.now.gone c.args.graph.now.received c.args.index.now c.requires.index c.requires.nodes;
   id = c.requires.nodes.there c.args.id c.requires.remains;
 }
 

@@ -5,7 +5,8 @@ use Rattle.txn.specs.declared.transactions.TxnId.{TxnId}
 use Rattle.session_clocks.specs.Reach.{IsThere}
 use Rattle.key_index.specs.declared.reads.Read.{Read}
 use Rattle.key_index.specs.Index.{IsRead, reads_of, runs_of}
-use Rattle.open_choices.specs.InGraphs.{IsRunThere, reached_in}
+use Rattle.clock_choices.specs.RunsThere.{IsRunThere}
+use Rattle.clock_choices.specs.Extending.{reached_in}
 use Rattle.clock_choices.specs.Forcing.{unforced, IsGrowth}
 use Rattle.clock_choices.specs.Stages.{IsTurnSettled}
 use Rattle.clock_choices.proofs.Extending.{extends_both, extends_none, on_new}

@@ -3,7 +3,8 @@ use Rattle.std.proofs.lemmas.List.{take_all}
 use Rattle.std.proofs.lemmas.List.Elements.{All-nil, All-more, All-weaker}
 use Rattle.key_index.specs.declared.reads.Read.{Read}
 use Rattle.key_index.specs.Index.{runs_of}
-use Rattle.open_choices.specs.InGraphs.{IsRunThere, reached_in}
+use Rattle.clock_choices.specs.RunsThere.{IsRunThere}
+use Rattle.clock_choices.specs.Extending.{reached_in}
 use Rattle.clock_choices.specs.Forcing.{unforced}
 use Rattle.clock_choices.specs.Stages.{IsReadSettled}
 use Rattle.clock_choices.proofs.Extending.{extends_both, extends_none, on_new}

@@ -3,7 +3,7 @@ use Rattle.std.specs.Prelude.{⊤}
 use Rattle.std.proofs.lemmas.Result.{on_ok_weaker}
 use Rattle.txn.specs.declared.transactions.TxnId.{TxnId}
 use Rattle.session_clocks.specs.Graphs.{HasNode}
-use Rattle.open_choices.specs.InGraphs.{reached_in}
+use Rattle.clock_choices.specs.Extending.{reached_in}
 use Rattle.clock_choices.specs.Forcing.{Decides, unforced}
 use Rattle.clock_choices.proofs.Growths.{growth_none}
 use Rattle.clock_choices.proofs.settling.force.Goals as goal

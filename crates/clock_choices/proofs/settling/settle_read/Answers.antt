@@ -3,7 +3,8 @@ use Rattle.std.proofs.lemmas.List.{take_all}
 use Rattle.std.proofs.lemmas.List.Elements.{All-nil, All-more, All-weaker}
 use Rattle.session_clocks.specs.Reach.{IsThere}
 use Rattle.key_index.specs.declared.runs.Run.{Run}
-use Rattle.open_choices.specs.InGraphs.{IsRunThere, reached_in}
+use Rattle.clock_choices.specs.RunsThere.{IsRunThere}
+use Rattle.clock_choices.specs.Extending.{reached_in}
 use Rattle.clock_choices.specs.Forcing.{AreRunChoices, IsRunSettled, unforced}
 use Rattle.clock_choices.proofs.Extending.{extends_both, extends_none, on_new}
 use Rattle.clock_choices.proofs.Growths.{growth_none, growth_both, forces_both, run_stays}

@@ -1,7 +1,6 @@
 use Rattle.std.proofs.Common.{All, take}
 use Rattle.order_check.specs.declared.remainder.Parts.{Parts}
-use Rattle.open_choices.specs.InGraphs.{reached_in}
-use Rattle.clock_choices.specs.Extending.{Extends}
+use Rattle.clock_choices.specs.Extending.{Extends, reached_in}
 use Rattle.clock_choices.specs.Forcing.{AreRunChoices, Forces, IsGrowth, IsRunSettled}
 use Rattle.clock_choices.proofs.settling.settle_read.Given as goal
 

@@ -2,11 +2,10 @@ use Rattle.std.proofs.Common.{◌≡◌, ◌++◌, ◌∷◌, List, [], length, 
 use Rattle.txn.specs.declared.choices.Arc.{Arc}
 use Rattle.txn.specs.declared.choices.Arc.TheVariants.{Taken}
 use Rattle.session_clocks.specs.Graphs.{HasNode}
-use Rattle.open_choices.specs.InGraphs.{IsRunThere, reached_in}
-use Rattle.open_choices.specs.Opens.{choice_of}
 use Rattle.clock_choices.specs.declared.steps.Forced.{Forced}
-use Rattle.clock_choices.specs.Extending.{Extends}
-use Rattle.clock_choices.specs.Forcing.{ForcesOver, IsGrowth, IsTaken, forced, unforced}
+use Rattle.clock_choices.specs.Extending.{Extends, reached_in}
+use Rattle.clock_choices.specs.Forcing.{ForcesOver, IsGrowth, IsTaken, choice_of, forced, unforced}
+use Rattle.clock_choices.specs.RunsThere.{IsRunThere}
 use Rattle.clock_choices.specs.Steps.{taken_arc}
 use Rattle.clock_choices.proofs.Extending.{on_new}
 use Rattle.clock_choices.proofs.Growths.{by_last, growth_told, settled_by, side_there}

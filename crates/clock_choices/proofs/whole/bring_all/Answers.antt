@@ -4,11 +4,11 @@ use Rattle.txn.specs.declared.transactions.TxnId.{TxnId}
 use Rattle.session_clocks.specs.Reach.{IsThere}
 use Rattle.key_index.specs.declared.reads.Read.{Read}
 use Rattle.key_index.specs.Index.{reads_of, runs_of}
-use Rattle.open_choices.specs.InGraphs.{IsRunThere}
 use Rattle.clock_choices.specs.Forcing.{Forces}
+use Rattle.clock_choices.specs.RunsThere.{IsRunThere}
 use Rattle.clock_choices.proofs.Extending.{on_new}
 use Rattle.clock_choices.proofs.Growths.{on_ok_two}
-use Rattle.clock_choices.proofs.Links.{reads_are}
+use Rattle.clock_choices.proofs.Links.{index_there, reads_are}
 use Rattle.clock_choices.proofs.Wholes.{all_due, all_remain, held_all, new_all, nodes_all}
 use Rattle.clock_choices.proofs.whole.bring_all.Goals as goal
 use Rattle.clock_choices.proofs.whole.bring_all.Goals.{After-saturate}
@@ -33,7 +33,7 @@ saturate-requires c =
     let index = c.args.index.now in
     let nodes = nodes_all parts graph c.requires.graph c.args.ids.now c.requires.ids in
     rw c.deref.ensures.value record {
-      runs = λ key. on_new (λ gone received. All (IsRunThere gone received) (runs_of index.writers key)) c.link_txns.ensures.extends (c.writers_are_there.ensures parts graph.gone graph.received index c.requires.index nodes key);
+      runs = λ key. on_new (λ gone received. All (IsRunThere gone received) (runs_of index.writers key)) c.link_txns.ensures.extends (index_there parts graph.gone graph.received index c.requires.index nodes key);
       readers = λ id. on_new (λ gone received. All (λ (read : Read). IsThere gone received read.reader) (reads_of index.reads.items id)) c.link_txns.ensures.extends (reads_are parts graph.gone graph.received index c.requires.index nodes id);
     }
 

@@ -1,5 +1,5 @@
 use Rattle.std.proofs.Common.{◌≡◌, take}
-use Rattle.branches.specs.Ranks.{ids_of}
+use Rattle.clock_choices.specs.Ranks.{ids_of}
 use Rattle.polygraph.proofs.ordering.ids_among.Given as goal
 
 abbrev pub invariant-loop-rank : goal.invariant-loop-rank

@@ -2,8 +2,8 @@ use Rattle.std.proofs.Common.{◌≡◌, ◌∙◌, sym, ap, subst, List}
 use Rattle.txn.specs.declared.transactions.TxnId.{TxnId}
 use Rattle.order_check.specs.Explains.{KeepsSessions}
 use Rattle.order_check.specs.TakenSides.{KeepsAllKnown}
-use Rattle.branches.specs.BranchState.{assumed}
-use Rattle.branches.specs.Ranks.{ids_of}
+use Rattle.clock_choices.specs.BranchState.{assumed}
+use Rattle.clock_choices.specs.Ranks.{ids_of}
 use Rattle.polygraph.proofs.Ranked.{AreSorted, sorted_sessions, sorted_known}
 use Rattle.polygraph.proofs.ordering.order_of.Goals as goal
 

@@ -1,7 +1,7 @@
 use Rattle.std.proofs.Common.{rules}
 use Rattle.std.proofs.lemmas.List.Sorted.{answers_always, IsNonDecreasingBy-from_sort}
 use Rattle.std.proofs.lemmas.Result.{on_ok_weaker}
-use Rattle.branches.specs.declared.ranks.Rank.{Rank}
+use Rattle.clock_choices.specs.declared.ranks.Rank.{Rank}
 use Rattle.polygraph.proofs.ordering.sort_by_count.Goals as goal
 
 pub returns-clause-sorted : goal.returns-clause-sorted

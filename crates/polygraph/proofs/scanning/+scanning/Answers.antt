@@ -1,6 +1,6 @@
 use Rattle.std.proofs.Common.{ℕ, ◌+◌, ap, ◌∙◌, arith, rules, subst, sym}
 use Rattle.order_check.specs.Search.{has_order, no_order, used_up}
-use Rattle.branches.specs.BranchState.{BranchState, all_taken, arc_of, assumed, taken_before}
+use Rattle.clock_choices.specs.BranchState.{BranchState, all_taken, arc_of, assumed, taken_before}
 use Rattle.polygraph.specs.Shown.{outcome_of, OrderKeeps, StandsAbove, told_of}
 use Rattle.polygraph.proofs.Scanned.{nothing_left, deep_scan, closed_scan, decided_scan, first_scan, both_scan, keeps_fewer, shown_beyond, leaf_shown, split_shown}
 use Rattle.polygraph.proofs.scanning.+scanning.Goals as goal

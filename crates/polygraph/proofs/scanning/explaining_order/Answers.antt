@@ -1,4 +1,4 @@
-use Rattle.branches.specs.BranchState.{assumed}
+use Rattle.clock_choices.specs.BranchState.{assumed}
 use Rattle.polygraph.proofs.Scanned.{keeps_taken}
 use Rattle.polygraph.proofs.scanning.explaining_order.Goals as goal
 

@@ -1,4 +1,4 @@
-use Rattle.branches.specs.BranchState.{all_taken, assumed}
+use Rattle.clock_choices.specs.BranchState.{all_taken, assumed}
 use Rattle.polygraph.proofs.steps.below_all.Goals as goal
 
 pub returns-clause-stands : goal.returns-clause-stands

@@ -1,5 +1,5 @@
 use Rattle.std.proofs.Common.{[]}
-use Rattle.branches.specs.BranchState.{all_taken, taken_before}
+use Rattle.clock_choices.specs.BranchState.{all_taken, taken_before}
 use Rattle.polygraph.proofs.steps.below_last.Goals as goal
 
 pub returns-clause-stands : goal.returns-clause-stands

@@ -1,6 +1,6 @@
 use Rattle.std.proofs.Common.{ap, arith, length}
 use Rattle.std.proofs.lemmas.List.{length-map}
-use Rattle.branches.specs.BranchState.{last_steps}
+use Rattle.clock_choices.specs.BranchState.{last_steps}
 use Rattle.clock_choices.specs.Steps.{bare}
 use Rattle.polygraph.proofs.StepsAbove.{step_read}
 use Rattle.polygraph.proofs.steps.last_step.Goals as goal

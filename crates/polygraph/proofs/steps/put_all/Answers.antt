@@ -1,6 +1,6 @@
 use Rattle.std.proofs.Common.{◌≡◌, ◌≢◌, ◌∙◌, [], ap, arith, length, subst, sym}
 use Rattle.refutation.specs.Pruned.{AreAmong}
-use Rattle.branches.specs.BranchState.{BranchState, Level, all_taken, assumed}
+use Rattle.clock_choices.specs.BranchState.{BranchState, Level, all_taken, assumed}
 use Rattle.polygraph.proofs.StepsAbove.{begins_with, ends_with, fewer_assumed, level_put}
 use Rattle.polygraph.proofs.steps.put_all.Goals as goal
 

@@ -1,7 +1,7 @@
 use Rattle.std.proofs.Common.{◌≡◌, ◌++◌, length}
 use Rattle.refutation.specs.Above.{StandsBelow}
 use Rattle.refutation.specs.Pruned.{AreAmong}
-use Rattle.branches.specs.BranchState.{assumed, taken_before}
+use Rattle.clock_choices.specs.BranchState.{assumed, taken_before}
 use Rattle.polygraph.proofs.steps.put_all.Given as goal
 
 -- beside the sides taken before the last level's steps all that were assumed at the start are

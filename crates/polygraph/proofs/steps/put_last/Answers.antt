@@ -1,7 +1,7 @@
 use Rattle.std.proofs.Common.{◌≡◌, ◌∙◌, ◌+◌, ◌++◌, ◌-◌, arith, subst, take}
 use Rattle.order_check.specs.Cycles.{sides_after}
 use Rattle.refutation.specs.Above.{StandsBelow}
-use Rattle.branches.specs.BranchState.{last_steps, taken_before}
+use Rattle.clock_choices.specs.BranchState.{last_steps, taken_before}
 use Rattle.polygraph.proofs.steps.put_last.Goals as goal
 
 pub loop-place-preserved : goal.loop-place-preserved

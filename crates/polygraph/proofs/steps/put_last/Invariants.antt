@@ -2,7 +2,7 @@ use Rattle.std.proofs.Common.{◌≡◌, ◌++◌, List, take}
 use Rattle.txn.specs.declared.transactions.TxnId.{TxnId}
 use Rattle.order_check.specs.Cycles.{sides_after}
 use Rattle.refutation.specs.Above.{StandsBelow}
-use Rattle.branches.specs.BranchState.{all_taken, last_steps, taken_before}
+use Rattle.clock_choices.specs.BranchState.{all_taken, last_steps, taken_before}
 use Rattle.polygraph.proofs.steps.put_last.Given as goal
 
 abbrev pub invariant-loop-place : goal.invariant-loop-place

@@ -1,6 +1,6 @@
 use Rattle.std.proofs.Common.{◌∙◌, refl, sym}
 use Rattle.std.proofs.lemmas.Bool.{false≢true}
-use Rattle.branches.specs.BranchState.{last_steps, taken_before}
+use Rattle.clock_choices.specs.BranchState.{last_steps, taken_before}
 use Rattle.clock_choices.specs.Steps.{bare}
 use Rattle.polygraph.proofs.StepsAbove.{puts_here, skips_here}
 use Rattle.polygraph.proofs.steps.put_step.Goals as goal

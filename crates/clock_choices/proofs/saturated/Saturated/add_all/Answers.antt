@@ -8,9 +8,9 @@ use Rattle.order_check.specs.Good.{IsGood}
 use Rattle.order_check.specs.StandsFor.{with_fragment}
 use Rattle.key_index.specs.declared.sharing.SharedIndex.{SharedIndex}
 use Rattle.key_index.specs.SharedIndexes.{IsIndexIn}
-use Rattle.open_choices.specs.KeptLists.{IsListed}
 use Rattle.clock_choices.specs.declared.steps.Forced.{Forced}
 use Rattle.clock_choices.specs.Held.{IsHeld}
+use Rattle.clock_choices.specs.KeptLists.{IsListed}
 use Rattle.clock_choices.specs.SaturatedState.{SaturatedState}
 use Rattle.clock_choices.specs.Steps.{bare}
 use Rattle.clock_choices.proofs.CutBack.{cut_back_to, if_none}

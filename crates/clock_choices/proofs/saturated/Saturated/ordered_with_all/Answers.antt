@@ -5,7 +5,7 @@ use Rattle.txn.specs.Transactions.{id_below}
 use Rattle.order_check.specs.Known.{Known}
 use Rattle.session_clocks.specs.Reach.{Reaches}
 use Rattle.key_index.specs.declared.runs.Run.{Run}
-use Rattle.open_choices.specs.InGraphs.{IsRunThere}
+use Rattle.clock_choices.specs.RunsThere.{IsRunThere}
 use Rattle.clock_choices.specs.OrderedAmong.{IsOrderedAmong}
 use Rattle.clock_choices.specs.Picks.{IsLinkedWithAll, Picks}
 use Rattle.clock_choices.proofs.LinkedAmong.{linked_ordered, runs_there}

@@ -1,8 +1,0 @@
-use Rattle.std.proofs.Common.{◌≡◌, take}
-use Rattle.session_clocks.specs.Reach.{Reaches}
-use Rattle.branches.specs.Ranks.{ids_of}
-use Rattle.branches.proofs.Counting.{AreCounted}
-use Rattle.branches.proofs.ranks.ranks_in.Given as goal
-
-abbrev pub invariant-loop-id : goal.invariant-loop-id
-invariant-loop-id l = record { ids : ids_of l.ranks.items ≡ take l.id-index l.ids; counts : AreCounted (Reaches l.graph.gone l.graph.received l.graph.arcs) l.ids l.ranks.items }

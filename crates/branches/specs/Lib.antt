@@ -1,4 +1,0 @@
-pub mod AllThere
-pub mod BranchState
-pub mod Ranks
-pub mod Stacks

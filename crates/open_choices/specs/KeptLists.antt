@@ -1,8 +1,0 @@
--- Open choices that were listed, and are kept.
-use Rattle.order_check.specs.declared.remainder.Parts.{Parts}
-use Rattle.open_choices.specs.CountedChoices.{AreFirstOpen}
-use Rattle.open_choices.specs.declared.counting.Listed.{Listed}
-
--- they are those of the parts, as many as were asked for
-abbrev pub IsListed : Parts → Listed → Type 0
-IsListed parts listed = AreFirstOpen parts listed.most listed.choices
