@@ -16,18 +16,18 @@ use Rattle.order_check.specs.Explains.{KeepsSessions}
 use Rattle.order_check.specs.Known.{Known, by_base, by_read, by_session, by_taken, forces_after, forces_before, through}
 use Rattle.order_check.specs.Search.{HasCycle}
 use Rattle.session_clocks.specs.Graphs.{GraphState}
-use Rattle.key_index.specs.Indexing.{AreInOrder}
 use Rattle.clock_choices.specs.declared.branch.Top.{Top}
 use Rattle.clock_choices.specs.declared.steps.Forced.{Forced}
 use Rattle.clock_choices.specs.Acyclic.{HasNoCycle, IsCycleOf}
 use Rattle.clock_choices.specs.BranchState.{all_taken, arc_of, assumed}
+use Rattle.clock_choices.specs.Indexing.{AreInOrder}
 use Rattle.clock_choices.specs.Logging.{AreRight}
 use Rattle.clock_choices.specs.Stacks.{AreStacked, levels_of}
 use Rattle.clock_choices.specs.Steps.{bare}
-use Rattle.clock_choices.proofs.ChoiceOrder.{id_below_from}
 use Rattle.clock_choices.proofs.LeftSteps.{filter_in, in_filter}
 use Rattle.clock_choices.proofs.Logged.{first_or}
 use Rattle.clock_choices.proofs.Remaining.{bounds_of, bounds_remain, reader_remains, writer_remains}
+use Rattle.clock_choices.proofs.RemainingIds.{below_in_session}
 use Rattle.clock_choices.proofs.Stacked.{arc_same, at_exact, stacked_here, taken_all}
 use Rattle.clock_choices.proofs.StepsOn.{side_remains}
 use Rattle.clock_choices.proofs.There.{remains_there}
@@ -139,7 +139,7 @@ session_rises : (s first : ℕ) (txns : List Txn) → AreInOrder (ids_from s fir
 session_rises s first txns i j d less within =
     let one = at_place s first txns i d (omega (arith, less, within)) in
     let other = at_place s first txns j d within in
-    subst (λ (a : TxnId). id_below a (get_or (ids_from s first txns) j d) ≡ true) (sym one.1) (subst (λ (b : TxnId). id_below (record { session = s; number = first + i }) b ≡ true) (sym other.1) (id_below_from (record { session = s; number = first + i }) (record { session = s; number = first + j }) (inr (refl, omega (arith, less)))))
+    subst (λ (a : TxnId). id_below a (get_or (ids_from s first txns) j d) ≡ true) (sym one.1) (subst (λ (b : TxnId). id_below (record { session = s; number = first + i }) b ≡ true) (sym other.1) (below_in_session (record { session = s; number = first + i }) (record { session = s; number = first + j }) refl (omega (arith, less))))
 
 -- ids in order, of all that remains and nothing else, keep the sessions
 pub sessions_kept : (parts : Parts) (ids : List TxnId) → AreInOrder ids → ((id : TxnId) → Contains ids id ↔ Remains parts id) → KeepsSessions parts ids

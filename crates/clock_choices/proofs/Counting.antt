@@ -9,9 +9,9 @@ use Rattle.order_check.specs.declared.remainder.Parts.{Parts}
 use Rattle.order_check.specs.Cycles.{Sides}
 use Rattle.order_check.specs.Known.{Known}
 use Rattle.session_clocks.specs.Reach.{IsThere}
-use Rattle.key_index.specs.Indexing.{AreInOrder}
 use Rattle.clock_choices.specs.declared.ranks.Rank.{Rank}
 use Rattle.clock_choices.specs.AllThere.{all_there, ids_from, there_below}
+use Rattle.clock_choices.specs.Indexing.{AreInOrder}
 use Rattle.clock_choices.specs.Ranks.{AreRanked, Counts, none, one_more, not_this, ids_of}
 
 pub counts_within : {X : Type 0} (P : X → Type 0) (xs : List X) (n : ℕ) → Counts P xs n → n ≤ length xs

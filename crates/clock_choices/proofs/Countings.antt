@@ -8,9 +8,9 @@ use Rattle.txn.specs.declared.transactions.TxnId.{TxnId}
 use Rattle.txn.specs.declared.choices.Choice.{Choice}
 use Rattle.order_check.specs.declared.remainder.Parts.{Parts}
 use Rattle.order_check.specs.Known.{AreOpenChoices, Known}
-use Rattle.key_index.specs.declared.reads.Read.{Read}
 use Rattle.clock_choices.specs.declared.open_choices.OpenChoices.{OpenChoices}
 use Rattle.clock_choices.specs.declared.open_choices.Tally.{Tally}
+use Rattle.clock_choices.specs.declared.reads.Read.{Read}
 use Rattle.clock_choices.specs.Counted.{IsCounted, TalliesOn}
 use Rattle.clock_choices.specs.CountedChoices.{AreFirstOpen}
 use Rattle.clock_choices.specs.Forcing.{choice_of}

@@ -12,12 +12,12 @@ use Rattle.order_check.specs.declared.remainder.Parts.{Parts}
 use Rattle.session_clocks.specs.Additions.{AreTold, IsFrontOf}
 use Rattle.session_clocks.specs.Graphs.{GraphState, HasNode}
 use Rattle.session_clocks.specs.Reach.{IsThere, Reaches, by_session, by_arc, through}
-use Rattle.key_index.specs.declared.reads.Read.{Read}
-use Rattle.key_index.specs.declared.runs.Run.{Run}
+use Rattle.clock_choices.specs.declared.reads.Read.{Read}
+use Rattle.clock_choices.specs.declared.runs.Run.{Run}
 use Rattle.clock_choices.specs.declared.steps.Forced.{Forced}
 use Rattle.clock_choices.specs.Extending.{Extends, reached_in}
 use Rattle.clock_choices.specs.Forcing.{Decides, ForcesOver, unforced, forced, HasGrown, IsForcedIn, IsGrowth, IsOther, IsRunSettled, IsSideSettled, IsTaken, choice_of}
-use Rattle.clock_choices.specs.RunsThere.{IsRunThere}
+use Rattle.clock_choices.specs.Index.{IsRunThere}
 use Rattle.clock_choices.specs.Steps.{conclusion_of}
 use Rattle.clock_choices.proofs.Extending.{on_new, on_old}
 

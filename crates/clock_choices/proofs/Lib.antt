@@ -1,3 +1,4 @@
+pub mod Adding
 pub mod BranchIds
 pub mod Catching
 pub mod CaughtUp
@@ -14,18 +15,19 @@ pub mod FirstOpens
 pub mod FullLogs
 pub mod Growing
 pub mod Growths
+pub mod Halves
 pub mod InLists
+pub mod Indexed
 pub mod LeftSteps
-pub mod LeftCounts
 pub mod LinkedAmong
 pub mod Links
 pub mod Logged
-pub mod MoreIndexed
 pub mod MoreNodes
 pub mod MoreSides
 pub mod NewChoices
 pub mod NewCycles
 pub mod Nexts
+pub mod Numbers
 pub mod OpenReads
 pub mod OpenSpans
 pub mod Opens
@@ -34,6 +36,7 @@ pub mod Passes
 pub mod Picking
 pub mod Ranked
 pub mod Remaining
+pub mod RemainingIds
 pub mod RightArcs
 pub mod SameParts
 pub mod Seeing
@@ -45,3 +48,4 @@ pub mod There
 pub mod Theres
 pub mod UpTo
 pub mod Wholes
+pub mod WriterLists

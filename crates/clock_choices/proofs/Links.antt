@@ -1,9 +1,8 @@
 -- Arcs that are there from the start, as they are added.
 use Rattle.std.proofs.Common.{◌≡◌, ◌≢◌, ◌⊎◌, ℕ, ◌+◌, ◌<◌, ◌≤◌, List, [], ◌∷◌, ◌++◌, length, get_or, take, Option, Some, IsSomeAnd, refl, sym, ap, subst, ◌∙◌, inl, inr, arith, append-nil, append_assoc, Contains, All}
-use Rattle.std.proofs.lemmas.Bool.{cases_lt, eqb-true}
-use Rattle.std.proofs.lemmas.List.{get_or_past, take_all}
+use Rattle.std.proofs.lemmas.Bool.{cases_lt}
+use Rattle.std.proofs.lemmas.List.{get_or_past}
 use Rattle.std.proofs.lemmas.List.Elements.{All-append, All-contains, All-cons, All-more, All-nil, All-weaker, Contains-get_or}
-use Rattle.std.proofs.lemmas.Map.Views.{Contains-from_any}
 use Rattle.txn.specs.declared.transactions.TxnId.{TxnId}
 use Rattle.txn.specs.declared.transactions.Txn.{Txn}
 use Rattle.txn.specs.declared.transactions.Source.{Source}
@@ -17,21 +16,21 @@ use Rattle.order_check.specs.Cycles.{IsArc}
 use Rattle.order_check.specs.Known.{ReadsBase, ReadsKey, WritesKey}
 use Rattle.session_clocks.specs.Graphs.{GraphState}
 use Rattle.session_clocks.specs.Reach.{IsThere, Reaches}
-use Rattle.key_index.specs.declared.indexing.Index.{Index}
-use Rattle.key_index.specs.declared.reads.Read as reads
-use Rattle.key_index.specs.declared.runs.Run.{Run}
-use Rattle.key_index.specs.Index.{AreRunsOf, IsInRuns, WriterRuns, reads_of, runs_of}
-use Rattle.key_index.specs.Indexing.{IsIndex}
-use Rattle.key_index.specs.Lists.{list_at}
-use Rattle.key_index.specs.Runs.{AreBelow, Climbs, IsFirstThird, IsThird}
-use Rattle.key_index.specs.Writers.{IsRun}
-use Rattle.clock_choices.specs.RunsThere.{IsRunThere}
+use Rattle.clock_choices.specs.declared.indexing.Index.{Index}
+use Rattle.clock_choices.specs.declared.reads.Read as reads
+use Rattle.clock_choices.specs.declared.runs.Run.{Run}
 use Rattle.clock_choices.specs.Extending.{reached_in}
 use Rattle.clock_choices.specs.Forcing.{IsGrowth}
+use Rattle.clock_choices.specs.Index.{AreRunsOf, IsInRuns, IsRunThere, WriterRuns, reads_of, runs_of}
+use Rattle.clock_choices.specs.Indexing.{IsIndex}
 use Rattle.clock_choices.specs.Linking.{AreNodesOf, AreRunLinked, AreWritersLinked, Brings, HasEarlier, HasTwoBelow, IsBaseLinked, IsBeforeRun, IsLinked, IsSessionLinked, IsTxnLinked}
+use Rattle.clock_choices.specs.Lists.{list_at}
+use Rattle.clock_choices.specs.Runs.{AreBelow, Climbs, IsFirstThird, IsThird}
+use Rattle.clock_choices.specs.Writers.{IsRun}
 use Rattle.clock_choices.proofs.Growths.{growth_both, growth_none, then_along}
+use Rattle.clock_choices.proofs.Indexed.{some_writes}
 use Rattle.clock_choices.proofs.Remaining.{reader_remains, writer_remains}
-use Rattle.clock_choices.proofs.Settled.{same_there}
+use Rattle.clock_choices.proofs.Settled.{same_there, take_all}
 
 module _ (parts : Parts) where
   pub brings_none : (graph : GraphState) (due : List TxnId) → Brings parts graph due graph due
@@ -59,7 +58,7 @@ module _ (parts : Parts) where
 
 -- all is more than what the first so many say
 pub all_taken : {X : Type 0} (P : X → Type 0) (xs : List X) (k : ℕ) → length xs ≤ k → All P (take k xs) → All P xs
-all_taken {X} P xs k past all = subst (λ (some : List X). All P some) (take_all k xs past) all
+all_taken {X} P xs k past all = subst (λ (some : List X). All P some) (take_all xs k past) all
 
 -- more is reached
 module _ (R S : TxnId → TxnId → Type 0) (more : (a b : TxnId) → R a b → S a b) where
@@ -128,7 +127,7 @@ module _ (parts : Parts) (R : TxnId → TxnId → Type 0) (index : Index) (is : 
 
   writes_linked : (reader : TxnId) (key : ℕ) → ReadsBase parts reader key → WritesKey parts id key → id ≢ reader → R reader id ⊎ HasEarlier parts key id.session first
   writes_linked reader key read written apart =
-      let there : Contains txn.writes key = Contains-from_any (λ x y same. eqb-true x y same) key txn.writes (ap (λ (t : Option Txn). writes_key t key) (sym found) ∙ written) in
+      let there : Contains txn.writes key = some_writes txn key (ap (λ (t : Option Txn). writes_key t key) (sym found) ∙ written) in
       let run = (is.writers key).all id written in
       by_run run.0 run.1 run.2 run.3 (All-contains (IsSessionLinked R id.session first (list_at index.base key)) (runs_of index.writers key) run.0 (All-contains (AreWritersLinked R index id.session first) txn.writes key by_writes there) run.1 run.2)
     where

@@ -11,19 +11,19 @@ use Rattle.order_check.specs.declared.remainder.Parts.{Parts}
 use Rattle.order_check.specs.Based.{mark_of, received_count}
 use Rattle.order_check.specs.Good.{IsGood}
 use Rattle.order_check.specs.StandsFor.{parts_with}
-use Rattle.key_index.specs.declared.indexing.Index.{Index}
-use Rattle.key_index.specs.Index.{runs_of}
-use Rattle.key_index.specs.Indexing.{IsIndex, IsIndexWith}
-use Rattle.key_index.specs.Writers.{AreRuns}
+use Rattle.clock_choices.specs.declared.indexing.Index.{Index}
 use Rattle.clock_choices.specs.declared.steps.Forced.{Forced}
 use Rattle.clock_choices.specs.CatchingUp.{GoesOn}
 use Rattle.clock_choices.specs.Growth.{AreIdsFrom, AreMore, IsNext}
 use Rattle.clock_choices.specs.Held.{IsHeld}
+use Rattle.clock_choices.specs.Index.{runs_of}
+use Rattle.clock_choices.specs.Indexing.{IsIndex, IsIndexWith}
 use Rattle.clock_choices.specs.Nodes.{HaveMore, IsArcThere}
 use Rattle.clock_choices.specs.Over.{IsOver}
+use Rattle.clock_choices.specs.Writers.{AreRuns}
 use Rattle.clock_choices.proofs.CaughtUp.{arcs_there, new_remain, split}
 use Rattle.clock_choices.proofs.Growing.{more_with}
-use Rattle.clock_choices.proofs.MoreIndexed.{index_more}
+use Rattle.clock_choices.proofs.Indexed.{index_more}
 
 -- how many were received with the fragment
 counted_here : (parts : Parts) (fragment : Fragment) → fragment.session < length parts.remain → received_count (parts_with parts fragment) fragment.session ≡ received_count parts fragment.session + length fragment.txns

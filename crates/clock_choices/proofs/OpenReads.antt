@@ -15,16 +15,16 @@ use Rattle.txn.specs.Transactions.{id_below, read_below}
 use Rattle.order_check.specs.declared.remainder.Parts.{Parts}
 use Rattle.order_check.specs.Based.{Remains, remaining_at}
 use Rattle.order_check.specs.Known.{IsChoice, ReadsKey, WritesKey}
-use Rattle.key_index.specs.declared.reads.Read.{Read}
-use Rattle.key_index.specs.declared.runs.Run.{Run}
-use Rattle.key_index.specs.Adds.{Among}
-use Rattle.key_index.specs.Index.{AreRunsOf, IsInRuns, IsRead}
-use Rattle.key_index.specs.Indexing.{AreInOrder}
-use Rattle.key_index.specs.Runs.{Climbs, IsThird}
-use Rattle.key_index.specs.Writers.{AreRuns}
+use Rattle.clock_choices.specs.declared.reads.Read.{Read}
+use Rattle.clock_choices.specs.declared.runs.Run.{Run}
+use Rattle.clock_choices.specs.Adds.{Among}
 use Rattle.clock_choices.specs.Forcing.{choice_of}
+use Rattle.clock_choices.specs.Index.{AreRunsOf, IsInRuns, IsRead}
+use Rattle.clock_choices.specs.Indexing.{AreInOrder}
 use Rattle.clock_choices.specs.Opens.{AreOpenOf, IsFirstOf, IsOfReader, IsOfRun, IsOfSource, IsOpenIn, IsRunOfRead, NoneOpen, choices_at, read_of}
+use Rattle.clock_choices.specs.Runs.{Climbs, IsThird}
 use Rattle.clock_choices.specs.Spans.{IsOpenAt, IsOpenSpan, IsUndecided, id_at}
+use Rattle.clock_choices.specs.Writers.{AreRuns}
 use Rattle.clock_choices.proofs.ChoiceOrder.{below_by_key, below_by_other, below_by_reader, below_by_writer, id_below_from, read_cases}
 use Rattle.clock_choices.proofs.Remaining.{reader_remains}
 

@@ -3,8 +3,8 @@ use Rattle.std.proofs.Common.{◌≡◌, ℕ, ◌<◌, ◌≤◌, max, List, len
 use Rattle.std.proofs.lemmas.Bool.{cases_lt}
 use Rattle.std.proofs.lemmas.List.Elements.{Contains-get_or}
 use Rattle.txn.specs.declared.transactions.TxnId.{TxnId}
-use Rattle.key_index.specs.declared.reads.Read.{Read}
-use Rattle.key_index.specs.Runs.{AreBelow}
+use Rattle.clock_choices.specs.declared.reads.Read.{Read}
+use Rattle.clock_choices.specs.Runs.{AreBelow}
 use Rattle.clock_choices.specs.Spans.{IsOpenAt, IsOpenSpan, id_at}
 
 module _ (R : TxnId → TxnId → Type 0) (trans : (a b c : TxnId) → R a b → R b c → R a c) (read : Read) (session : ℕ) (numbers : List ℕ) (before after from to : ℕ) (reads : R read.writer read.reader)

@@ -9,7 +9,7 @@ use Rattle.txn.specs.declared.transactions.TxnId.{TxnId}
 use Rattle.txn.specs.declared.choices.Choice.{Choice}
 use Rattle.txn.specs.Choices.{choice_below}
 use Rattle.order_check.specs.declared.remainder.Parts.{Parts}
-use Rattle.key_index.specs.Adds.{Among}
+use Rattle.clock_choices.specs.Adds.{Among}
 use Rattle.clock_choices.specs.Opens.{AreOpenOf, IsFirstOf, IsOpenIn, NoneOpen}
 
 -- a list behind another

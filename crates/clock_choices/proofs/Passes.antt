@@ -1,24 +1,23 @@
 -- Who is noted since a transaction writes a key.
 use Rattle.std.proofs.Common.{◌≡◌, ◌⊎◌, ℕ, ◌<◌, ◌≤◌, List, get_or, Option, Some, None, sym, ap, subst, ◌∙◌, inl, inr, arith, Contains, All}
 use Rattle.std.specs.Prelude.{IfSome, MatchOption}
-use Rattle.std.proofs.lemmas.Bool.{cases_lt, eqb-true}
+use Rattle.std.proofs.lemmas.Bool.{cases_lt}
 use Rattle.std.proofs.lemmas.List.{get_or_default}
 use Rattle.std.proofs.lemmas.List.Elements.{All-contains}
-use Rattle.std.proofs.lemmas.Map.Views.{Contains-from_any}
 use Rattle.txn.specs.declared.transactions.TxnId.{TxnId}
 use Rattle.txn.specs.declared.transactions.Txn.{Txn}
 use Rattle.txn.specs.History.{writes_key}
 use Rattle.order_check.specs.declared.remainder.Parts.{Parts}
 use Rattle.order_check.specs.Based.{remaining_at}
-use Rattle.session_clocks.specs.Reach.{IsThere}
-use Rattle.key_index.specs.declared.indexing.Index.{Index}
-use Rattle.key_index.specs.declared.runs.Run.{Run}
-use Rattle.key_index.specs.Index.{IsInRuns, runs_of}
-use Rattle.key_index.specs.Indexing.{IsIndex}
-use Rattle.key_index.specs.Runs.{AreBelow, IsLastThird}
+use Rattle.clock_choices.specs.declared.indexing.Index.{Index}
+use Rattle.clock_choices.specs.declared.runs.Run.{Run}
 use Rattle.clock_choices.specs.Growth.{IsNotedFor}
-use Rattle.clock_choices.specs.RunsThere.{IsRunThere}
+use Rattle.session_clocks.specs.Reach.{IsThere}
+use Rattle.clock_choices.specs.Index.{IsInRuns, IsRunThere, runs_of}
+use Rattle.clock_choices.specs.Indexing.{IsIndex}
 use Rattle.clock_choices.specs.Passing.{IsEarlier, IsNotedInRun, IsNotedInRuns, IsPassed}
+use Rattle.clock_choices.specs.Runs.{AreBelow, IsLastThird}
+use Rattle.clock_choices.proofs.Indexed.{some_writes}
 use Rattle.clock_choices.proofs.Settled.{in_runs_there}
 
 module _ (R : TxnId → TxnId → Type 0) (due : List TxnId) (id : TxnId) where
@@ -53,7 +52,7 @@ module _ (R : TxnId → TxnId → Type 0) (due : List TxnId) (id : TxnId) where
   -- of a transaction those are noted that are noted for its keys
   pub noted_txn : (parts : Parts) (index : Index) (txn : Txn) → IsIndex parts index → remaining_at parts id ≡ Some txn → All (λ key. IsNotedInRuns R due (runs_of index.writers key) id) txn.writes → IsNotedFor parts R (Contains due) id
   noted_txn parts index txn is found all key written writer writes reached =
-      let there : Contains txn.writes key = Contains-from_any (λ x y same. eqb-true x y same) key txn.writes (ap (λ (t : Option Txn). writes_key t key) (sym found) ∙ written) in
+      let there : Contains txn.writes key = some_writes txn key (ap (λ (t : Option Txn). writes_key t key) (sym found) ∙ written) in
       elim (All-contains (λ (k : ℕ). IsNotedInRuns R due (runs_of index.writers k) id) txn.writes key all there writer ((is.writers key).all writer writes) reached) [
         | inl noted ↦ inl noted
         | inr (earlier, before, noted, on) ↦ inr (earlier, (is.writers key).each earlier before.writes, before.session, before.below, noted, on)

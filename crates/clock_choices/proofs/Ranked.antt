@@ -8,11 +8,11 @@ use Rattle.order_check.specs.Based.{Remains}
 use Rattle.order_check.specs.Known.{Known}
 use Rattle.session_clocks.specs.Graphs.{GraphState, HasNode}
 use Rattle.session_clocks.specs.Reach.{Reaches}
-use Rattle.key_index.specs.Indexing.{AreInOrder}
 use Rattle.clock_choices.specs.declared.ranks.Rank.{Rank}
 use Rattle.clock_choices.specs.declared.branch.Top.{Top}
 use Rattle.clock_choices.specs.declared.steps.Forced.{Forced}
 use Rattle.clock_choices.specs.BranchState.{assumed}
+use Rattle.clock_choices.specs.Indexing.{AreInOrder}
 use Rattle.clock_choices.specs.Ranks.{AreRanked, Counts, ids_of, none, one_more, not_this}
 use Rattle.clock_choices.specs.Stacks.{IsRelationAt, levels_of}
 use Rattle.clock_choices.proofs.Stacked.{at_exact}

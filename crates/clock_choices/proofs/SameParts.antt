@@ -10,12 +10,12 @@ use Rattle.order_check.specs.Cycles.{IsArc}
 use Rattle.order_check.specs.Good.{IsGood}
 use Rattle.order_check.specs.Known.{Known}
 use Rattle.order_check.specs.StandsFor.{parts_closed}
-use Rattle.key_index.specs.declared.sharing.SharedIndex.{SharedIndex}
-use Rattle.key_index.specs.SharedIndexes.{IsIndexIn}
+use Rattle.clock_choices.specs.declared.sharing.SharedIndex.{SharedIndex}
 use Rattle.clock_choices.specs.declared.steps.Forced.{Forced}
 use Rattle.clock_choices.specs.Growth.{AreMore}
 use Rattle.clock_choices.specs.Held.{IsHeld}
 use Rattle.clock_choices.specs.Logging.{IsLogged}
+use Rattle.clock_choices.specs.SharedIndexes.{IsIndexIn}
 use Rattle.clock_choices.proofs.CaughtUp.{arcs_there}
 use Rattle.clock_choices.proofs.Growing.{known_grows}
 use Rattle.clock_choices.proofs.MoreNodes.{more_none}

@@ -12,14 +12,14 @@ use Rattle.order_check.specs.Known.{IsOpen}
 use Rattle.order_check.specs.Search.{IsFirstOpen}
 use Rattle.session_clocks.specs.Graphs.{GraphState, back_to, where_marked}
 use Rattle.session_clocks.specs.Reach.{Reaches, by_arc, by_session, through}
-use Rattle.key_index.specs.declared.indexing.Index.{Index}
-use Rattle.key_index.specs.Indexing.{IsIndex}
 use Rattle.clock_choices.specs.declared.branch.Seen.{Seen}
 use Rattle.clock_choices.specs.declared.branch.Top.{Top}
+use Rattle.clock_choices.specs.declared.indexing.Index.{Index}
 use Rattle.clock_choices.specs.declared.steps.Forced.{Forced}
 use Rattle.clock_choices.specs.Acyclic.{HasNoCycle}
 use Rattle.clock_choices.specs.BranchState.{assumed}
 use Rattle.clock_choices.specs.Extending.{reached_in}
+use Rattle.clock_choices.specs.Indexing.{IsIndex}
 use Rattle.clock_choices.specs.Opens.{IsAsked, IsFirstIn, IsOpenIn}
 use Rattle.clock_choices.specs.Stacks.{AreStacked, IsRelationAt, IsSeen, levels_of, seen_of_last, stack_onto}
 use Rattle.clock_choices.proofs.FirstOpens.{first_known, none_known, none_passed, passed_on}

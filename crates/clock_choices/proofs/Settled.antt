@@ -1,19 +1,19 @@
 -- Reads that are settled, but for those that are due.
-use Rattle.std.proofs.Common.{◌≡◌, ◌⊎◌, ℕ, ◌+◌, ◌<◌, ◌++◌, ◌∷◌, List, [], length, get_or, take, refl, sym, subst, inl, inr, arith, Contains, All}
+use Rattle.std.proofs.Common.{◌≡◌, ◌⊎◌, ℕ, zero, suc, ◌+◌, ◌<◌, ◌≤◌, ◌++◌, Vec, Global, ◌∷◌, List, [], length, get_or, take, refl, sym, ap, subst, ◌∙◌, inl, inr, arith, Contains, All}
 use Rattle.std.proofs.lemmas.List.{take_more}
 use Rattle.std.proofs.lemmas.List.Elements.{All-contains, Contains-append_left, Contains-get_or, Contains-push, Contains-push_cases}
+use Rattle.std.specs.BTreeMap.{BTreeMap}
 use Rattle.txn.specs.declared.transactions.TxnId.{TxnId}
 use Rattle.txn.specs.declared.choices.Choice.{Choice}
 use Rattle.order_check.specs.declared.remainder.Parts.{Parts}
 use Rattle.order_check.specs.Known.{IsChoice}
 use Rattle.session_clocks.specs.Reach.{IsThere}
-use Rattle.key_index.specs.declared.reads.Read.{Read}
-use Rattle.key_index.specs.declared.runs.Run.{Run}
-use Rattle.key_index.specs.Index.{AreReadsOf, AreRunsOf, IsInRuns, IsRead}
+use Rattle.clock_choices.specs.declared.reads.Read.{Read}
+use Rattle.clock_choices.specs.declared.runs.Run.{Run}
 use Rattle.clock_choices.specs.Closed.{IsClosed}
 use Rattle.clock_choices.specs.Due.{AreNoted}
 use Rattle.clock_choices.specs.Forcing.{AreRunChoices, IsGrowth, IsOther, IsRunSettled, choice_of}
-use Rattle.clock_choices.specs.RunsThere.{IsRunThere}
+use Rattle.clock_choices.specs.Index.{AreReadsOf, AreRunsOf, IsInRuns, IsRead, IsRunThere, ReadLists, reads_at, reads_in}
 use Rattle.clock_choices.specs.Pending.{IsClosedBut, IsDue, IsSettledBut}
 use Rattle.clock_choices.specs.Stages.{IsLeftTo, IsReadSettled, IsTurnSettled, IsTxnSettled}
 
@@ -192,3 +192,29 @@ closed_wider parts R due more wider closed choice is = record {
 
 pub closed_is_but : (parts : Parts) (R : TxnId → TxnId → Type 0) (due : TxnId → Type 0) → IsClosed parts R → IsClosedBut parts R due
 closed_is_but parts R due closed choice is = record { before = λ reached. inl ((closed choice is).before reached); behind = λ reached. inl ((closed choice is).behind reached) }
+
+-- it is in no run so far, and not in the next
+pub not_in_more : (runs : List Run) (k : ℕ) (run : Run) (id : TxnId) → k < length runs → run ≡ get_or runs k run → ¬ IsInRuns (take k runs) id → ((run.session ≡ id.session) → ¬ Contains run.numbers.items id.number) → ¬ IsInRuns (take (k + 1) runs) id
+not_in_more runs k run id within at before apart found =
+    let more : take (k + 1) runs ≡ take k runs ++ run ∷ [] = take_more runs k run within ∙ ap (λ (x : Run). take k runs ++ x ∷ []) (sym at) in
+    let there = subst (λ (some : List Run). Contains some found.0) more found.1 in
+    elim (Contains-push_cases (take k runs) run found.0 there) [
+      | inl was ↦ before (found.0, was, found.2, found.3)
+      | inr same ↦ apart (ap (λ (r : Run). r.session) same ∙ found.2) (subst (λ (r : Run). Contains r.numbers.items id.number) (sym same) found.3)
+    ]
+
+pub reads_at-get : (lists : ReadLists) (session number : ℕ) (d : BTreeMap ℕ (Vec Read Global)) → session < length lists → reads_in (get_or lists session d) number ≡ reads_at lists session number
+reads_at-get [] session number d within = absurd (omega arith)
+reads_at-get (numbers ∷ lists) zero number d within = refl
+reads_at-get (numbers ∷ lists) (suc session) number d within = reads_at-get lists session number d (omega arith)
+
+pub reads_at-past : (lists : ReadLists) (session number : ℕ) → length lists ≤ session → reads_at lists session number ≡ []
+reads_at-past [] session number past = refl
+reads_at-past (numbers ∷ lists) zero number past = absurd (omega arith)
+reads_at-past (numbers ∷ lists) (suc session) number past = reads_at-past lists session number (omega arith)
+
+pub take_all : {X : Type 0} (xs : List X) (n : ℕ) → length xs ≤ n → take n xs ≡ xs
+take_all [] zero all = refl
+take_all [] (suc n) all = refl
+take_all (x ∷ xs) zero all = absurd (omega arith)
+take_all (x ∷ xs) (suc n) all = ap (λ rest. x ∷ rest) (take_all xs n (omega arith))

@@ -1,7 +1,7 @@
 -- Steps that were forced stay so as more is added, and what is forced then is logged behind them.
 use Rattle.std.proofs.Common.{◌≡◌, ℕ, zero, suc, ◌<◌, List, [], ◌∷◌, ◌++◌, length, get_or, map, take, refl, sym, ap, subst, subst₂, ◌∙◌, inl, inr, arith, append-nil, append_assoc, length-append, All}
 use Rattle.std.proofs.lemmas.Bool.{cases_lt}
-use Rattle.std.proofs.lemmas.List.{get_or_append_left, take-append-le, take_all}
+use Rattle.std.proofs.lemmas.List.{get_or_append_left, take-append-le}
 use Rattle.std.proofs.lemmas.List.Elements.{All-append, All-push, All-take, All-weaker}
 use Rattle.txn.specs.declared.transactions.TxnId.{TxnId}
 use Rattle.txn.specs.declared.transactions.Source.TheVariants.{By}
@@ -30,6 +30,7 @@ use Rattle.clock_choices.proofs.Growing.{choice_more, reads_base_more, reads_mor
 use Rattle.clock_choices.proofs.Logged.{forces_new, map_push, sides_behind_both, sides_push, taken_is}
 use Rattle.clock_choices.proofs.MoreNodes.{reaches_among, reaches_with_nodes}
 use Rattle.clock_choices.proofs.Remaining.{reader_remains, writer_remains}
+use Rattle.clock_choices.proofs.Settled.{take_all}
 use Rattle.clock_choices.proofs.There.{remains_there}
 
 -- right arcs stay right
@@ -110,7 +111,7 @@ logged_push parts start gone received arcs steps step logged plain is = record {
     last =
         let place = is.place in
         let len = length-append arcs (taken_arc step ∷ []) in
-        let all : take step.arcs (arcs ++ taken_arc step ∷ []) ≡ arcs = take-append-le step.arcs arcs (taken_arc step ∷ []) (omega (arith, place)) ∙ take_all step.arcs arcs (omega (arith, place)) in
+        let all : take step.arcs (arcs ++ taken_arc step ∷ []) ≡ arcs = take-append-le step.arcs arcs (taken_arc step ∷ []) (omega (arith, place)) ∙ take_all arcs step.arcs (omega (arith, place)) in
         record {
           choice_of = is.choice_of;
           within = omega (arith, place, len);
@@ -128,7 +129,7 @@ logged_push parts start gone received arcs steps step logged plain is = record {
           let len = length-append steps (step ∷ []) in
           let end : i ≡ length steps = omega (arith, past, within, len) in
           subst₂ (λ (before : List Forced) (one : Forced). IsStepFrom parts gone received (arcs ++ taken_arc step ∷ []) (sides_behind start before) one)
-          (sym (take_all i steps past) ∙ sym (take-append-le i steps (step ∷ []) (omega (arith, end)))) (sym (last_at steps step i d end)) last
+          (sym (take_all steps i past) ∙ sym (take-append-le i steps (step ∷ []) (omega (arith, end)))) (sym (last_at steps step i d end)) last
     ]
       where
         last_at : (xs : List Forced) (x : Forced) (i : ℕ) (d : Forced) → i ≡ length xs → get_or (xs ++ x ∷ []) i d ≡ x

@@ -6,10 +6,10 @@ use Rattle.txn.specs.declared.transactions.TxnId.{TxnId}
 use Rattle.txn.specs.Transactions.{id_below}
 use Rattle.txn.proofs.Ids.{same_numbers}
 use Rattle.session_clocks.specs.Reach.{IsThere}
-use Rattle.key_index.specs.Indexing.{AreInOrder, IsUpTo}
 use Rattle.clock_choices.specs.AllThere.{all_there, ids_from, there_below}
-use Rattle.clock_choices.proofs.ChoiceOrder.{id_below_from}
+use Rattle.clock_choices.specs.Indexing.{AreInOrder, IsUpTo}
 use Rattle.clock_choices.proofs.InLists.{In, contains_from_in, in_either, in_from_contains, in_left, in_right, pairs_append, pairs_of}
+use Rattle.clock_choices.proofs.RemainingIds.{below_by_session, below_in_session}
 use Rattle.clock_choices.proofs.SortedIds.{Ascends, same_ids}
 
 pub from_is : (session first count : ℕ) (id : TxnId) → In (ids_from session first count) id → IsUpTo session first (first + count) id
@@ -27,7 +27,7 @@ from_all session first (suc count) id (of, low, high) = elim (cases_eq first id.
 pub from_ascends : (session first count : ℕ) → Ascends (ids_from session first count)
 from_ascends session first zero = tt
 from_ascends session first (suc count) = (
-  λ y there. let (of, low, high) = from_is session (suc first) count y there in id_below_from (record { session = session; number = first }) y (inr (sym of, omega (arith, low))),
+  λ y there. let (of, low, high) = from_is session (suc first) count y there in below_in_session (record { session = session; number = first }) y (sym of) (omega (arith, low)),
   from_ascends session (suc first) count,
 )
 
@@ -66,7 +66,7 @@ module _ (gone received : List ℕ) where
   pub below_ascends : (sessions : ℕ) → Ascends (there_below gone received sessions)
   below_ascends zero = tt
   below_ascends (suc session) = pairs_append (λ a b. id_below a b ≡ true) (there_below gone received session) (of_session session) (below_ascends session) (from_ascends session (get_or gone session 0) (get_or received session 0 - get_or gone session 0))
-      (λ x y first second. let was = (below_is_there session x first).0 in let is = (session_is session y second).0 in id_below_from x y (inl (omega (arith, was, is))))
+      (λ x y first second. let was = (below_is_there session x first).0 in let is = (session_is session y second).0 in below_by_session x y (omega (arith, was, is)))
 
   -- what is there is of one of the sessions
   pub there_within : (id : TxnId) → IsThere gone received id → id.session < length received

@@ -10,14 +10,14 @@ use Rattle.order_check.specs.Based.{Remains, mark_of, received_count, remaining_
 use Rattle.order_check.specs.Cycles.{IsArc}
 use Rattle.order_check.specs.Good.{IsGood}
 use Rattle.session_clocks.specs.Graphs.{GraphState, HasNode, IsOneMore}
-use Rattle.key_index.specs.declared.indexing.Index.{Index}
-use Rattle.key_index.specs.declared.runs.Run.{Run}
-use Rattle.key_index.specs.Index.{runs_of}
-use Rattle.key_index.specs.Indexing.{IsIndex}
-use Rattle.key_index.specs.Runs.{Climbs}
-use Rattle.key_index.specs.Writers.{IsRun}
+use Rattle.clock_choices.specs.declared.indexing.Index.{Index}
+use Rattle.clock_choices.specs.declared.runs.Run.{Run}
+use Rattle.clock_choices.specs.Index.{runs_of}
+use Rattle.clock_choices.specs.Indexing.{IsIndex}
+use Rattle.clock_choices.specs.Runs.{Climbs}
 use Rattle.clock_choices.specs.UpTo.{GoesUp, IsGraphUpTo, IsNextReady}
 use Rattle.clock_choices.specs.Whole.{IsGraphOf}
+use Rattle.clock_choices.specs.Writers.{IsRun}
 use Rattle.clock_choices.proofs.Remaining.{bounds_of, bounds_remain}
 
 -- the numbers of each key's runs climb

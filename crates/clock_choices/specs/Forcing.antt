@@ -9,10 +9,10 @@ use Rattle.order_check.specs.declared.remainder.Parts.{Parts}
 use Rattle.order_check.specs.Known.{IsChoice}
 use Rattle.session_clocks.specs.Graphs.{GraphState}
 use Rattle.session_clocks.specs.Reach.{Reaches}
-use Rattle.key_index.specs.declared.reads.Read.{Read}
-use Rattle.key_index.specs.declared.runs.Run.{Run}
-use Rattle.key_index.specs.Runs.{IsThird}
+use Rattle.clock_choices.specs.declared.reads.Read.{Read}
+use Rattle.clock_choices.specs.declared.runs.Run.{Run}
 use Rattle.clock_choices.specs.declared.steps.Forced.{Forced}
+use Rattle.clock_choices.specs.Runs.{IsThird}
 use Rattle.clock_choices.specs.Steps.{premise, premise_of, conclusion, conclusion_of, taken_arc}
 
 -- over these arcs the side is forced, and isn't there yet

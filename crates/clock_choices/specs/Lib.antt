@@ -1,4 +1,5 @@
 pub mod Acyclic
+pub mod Adds
 pub mod AllThere
 pub mod BranchState
 pub mod CatchingUp
@@ -11,9 +12,12 @@ pub mod Extending
 pub mod Forcing
 pub mod Growth
 pub mod Held
+pub mod Index
+pub mod Indexing
 pub mod KeptLists
 pub mod LeftSteps
 pub mod Linking
+pub mod Lists
 pub mod Logging
 pub mod Nodes
 pub mod Opens
@@ -23,11 +27,13 @@ pub mod Passing
 pub mod Pending
 pub mod Picks
 pub mod Ranks
-pub mod RunsThere
+pub mod Runs
 pub mod SaturatedState
+pub mod SharedIndexes
 pub mod Spans
 pub mod Stacks
 pub mod Stages
 pub mod Steps
 pub mod UpTo
 pub mod Whole
+pub mod Writers

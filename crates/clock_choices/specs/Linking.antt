@@ -10,14 +10,14 @@ use Rattle.order_check.specs.Based.{Remains}
 use Rattle.order_check.specs.Known.{IsBaseSource, ReadsBase, ReadsKey, WritesKey}
 use Rattle.session_clocks.specs.Graphs.{GraphState}
 use Rattle.session_clocks.specs.Reach.{IsThere}
-use Rattle.key_index.specs.declared.indexing.Index.{Index}
-use Rattle.key_index.specs.declared.reads.Read.{Read}
-use Rattle.key_index.specs.declared.runs.Run.{Run}
-use Rattle.key_index.specs.Index.{WriterRuns, runs_of}
-use Rattle.key_index.specs.Lists.{list_at}
-use Rattle.key_index.specs.Runs.{IsThird}
+use Rattle.clock_choices.specs.declared.indexing.Index.{Index}
+use Rattle.clock_choices.specs.declared.reads.Read.{Read}
+use Rattle.clock_choices.specs.declared.runs.Run.{Run}
 use Rattle.clock_choices.specs.Extending.{reached_in}
 use Rattle.clock_choices.specs.Forcing.{IsGrowth}
+use Rattle.clock_choices.specs.Index.{WriterRuns, runs_of}
+use Rattle.clock_choices.specs.Lists.{list_at}
+use Rattle.clock_choices.specs.Runs.{IsThird}
 
 -- right arcs are added, and whoever reaches more by them, or is reached by more, is due
 pub record Brings (parts : Parts) (old : GraphState) (due : List TxnId) (new : GraphState) (then : List TxnId) : Type 0 where

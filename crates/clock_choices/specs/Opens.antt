@@ -10,15 +10,15 @@ use Rattle.order_check.specs.declared.remainder.Parts.{Parts}
 use Rattle.order_check.specs.Good.{IsGood}
 use Rattle.order_check.specs.Known.{IsChoice, ReadsKey, WritesKey}
 use Rattle.session_clocks.specs.Graphs.{GraphState}
-use Rattle.key_index.specs.declared.indexing.Index.{Index}
-use Rattle.key_index.specs.declared.reads.Read.{Read}
-use Rattle.key_index.specs.declared.runs.Run.{Run}
-use Rattle.key_index.specs.Adds.{Among}
-use Rattle.key_index.specs.Indexing.{IsIndex}
-use Rattle.key_index.specs.Runs.{IsThird}
+use Rattle.clock_choices.specs.declared.indexing.Index.{Index}
+use Rattle.clock_choices.specs.declared.reads.Read.{Read}
+use Rattle.clock_choices.specs.declared.runs.Run.{Run}
+use Rattle.clock_choices.specs.Adds.{Among}
 use Rattle.clock_choices.specs.Extending.{reached_in}
 use Rattle.clock_choices.specs.Forcing.{choice_of}
+use Rattle.clock_choices.specs.Indexing.{IsIndex}
 use Rattle.clock_choices.specs.Linking.{AreNodesOf}
+use Rattle.clock_choices.specs.Runs.{IsThird}
 use Rattle.clock_choices.specs.Spans.{IsUndecided}
 
 -- the read of a choice

@@ -1,8 +1,8 @@
 -- For private clauses: who has to be looked at since a new transaction writes a key.
 use Rattle.std.specs.Prelude.{◌≡◌, ◌⊎◌, ◌<◌, ℕ, List, Option, Contains, MatchOption}
 use Rattle.txn.specs.declared.transactions.TxnId.{TxnId}
-use Rattle.key_index.specs.declared.runs.Run.{Run}
-use Rattle.key_index.specs.Index.{IsInRuns}
+use Rattle.clock_choices.specs.declared.runs.Run.{Run}
+use Rattle.clock_choices.specs.Index.{IsInRuns}
 
 -- a writer before the transaction in its session
 pub record IsEarlier (runs : List Run) (id earlier : TxnId) : Type 0 where

@@ -1,8 +1,8 @@
 -- For private clauses: the choices of a read that a relation leaves undecided, which stand together in each session.
 use Rattle.std.specs.Prelude.{◌↔◌, ◌<◌, ◌≤◌, ℕ, List, length, slice_index}
 use Rattle.txn.specs.declared.transactions.TxnId.{TxnId}
-use Rattle.key_index.specs.declared.reads.Read.{Read}
-use Rattle.key_index.specs.Runs.{IsThird}
+use Rattle.clock_choices.specs.declared.reads.Read.{Read}
+use Rattle.clock_choices.specs.Runs.{IsThird}
 
 -- it isn't known of another transaction that it stands behind the writer, or before the reader, nor that it stands before the writer, or behind the reader
 pub record IsUndecided (R : TxnId → TxnId → Type 0) (read : Read) (other : TxnId) : Type 0 where

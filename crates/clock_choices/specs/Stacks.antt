@@ -9,15 +9,15 @@ use Rattle.order_check.specs.Cycles.{AreNew, Sides}
 use Rattle.order_check.specs.Good.{IsGood}
 use Rattle.order_check.specs.Known.{IsChoice}
 use Rattle.session_clocks.specs.Graphs.{GraphState, last_mark}
-use Rattle.key_index.specs.declared.indexing.Index.{Index}
-use Rattle.key_index.specs.Indexing.{AreInOrder, IsIndex}
 use Rattle.clock_choices.specs.declared.branch.Seen.{Seen}
 use Rattle.clock_choices.specs.declared.branch.Top.{Top}
+use Rattle.clock_choices.specs.declared.indexing.Index.{Index}
 use Rattle.clock_choices.specs.declared.steps.Forced.{Forced}
 use Rattle.clock_choices.specs.Acyclic.{AreAcyclic}
 use Rattle.clock_choices.specs.BranchState.{Level, all_taken, arc_of, assumed}
 use Rattle.clock_choices.specs.Extending.{reached_in}
 use Rattle.clock_choices.specs.Held.{IsHeldFrom}
+use Rattle.clock_choices.specs.Indexing.{AreInOrder, IsIndex}
 use Rattle.clock_choices.specs.Opens.{ArePassed}
 use Rattle.clock_choices.specs.Steps.{bare, sides_behind}
 

@@ -4,9 +4,9 @@ use Rattle.txn.specs.declared.transactions.TxnId.{TxnId}
 use Rattle.txn.specs.declared.choices.Choice.{Choice}
 use Rattle.order_check.specs.declared.remainder.Parts.{Parts}
 use Rattle.order_check.specs.Known.{IsChoice}
-use Rattle.key_index.specs.declared.reads.Read.{Read}
-use Rattle.key_index.specs.Index.{IsRead, TakesPart}
+use Rattle.clock_choices.specs.declared.reads.Read.{Read}
 use Rattle.clock_choices.specs.Forcing.{choice_of}
+use Rattle.clock_choices.specs.Index.{IsRead, TakesPart}
 use Rattle.clock_choices.specs.Pending.{IsSettledBut}
 
 -- each choice of the read is settled, unless its reader or its writer is due

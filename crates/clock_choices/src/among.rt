@@ -8,15 +8,40 @@ ghost use Rattle.order_check.specs.Based.{Remains};
 ghost use Rattle.order_check.specs.Known.{Known};
 ghost use Rattle.session_clocks.specs.Graphs.{HasNode};
 ghost use Rattle.session_clocks.specs.Reach.{Reaches};
-ghost use Rattle.clock_choices.specs.RunsThere.{IsRunThere};
+ghost use Rattle.clock_choices.specs.Index.{IsRunThere};
 ghost use Rattle.clock_choices.specs.OrderedAmong.{IsOrderedAmong};
-ghost use Rattle.clock_choices.specs.Picks.{IsLinkedWithAll, IsLinkedWithRun, Picks, PicksOne};
+ghost use Rattle.clock_choices.specs.Picks.{AreRunsOfIds, IsLinkedWithAll, IsLinkedWithRun, Picks, PicksOne};
 
+use crate::runs::{Run, first_from};
 use crate::saturated::Saturated;
-use key_index::{Run, first_from, runs_of_ids};
+use crate::writers::add_to_runs;
 use session_clocks::Graph;
 use std::alloc::Global;
 use txn::{NoMemory, TxnId};
+
+/// The ids by session, put in one after another.
+fn runs_of_each(alloc: Global, ids: &[TxnId]) -> Result<Vec<Run>, NoMemory>
+    ensures { IfOk result (λ runs. AreRunsOfIds ids.now runs.items) }
+{
+    let mut runs = Vec::new(alloc);
+    for id in ids {
+        add_to_runs(alloc, &mut runs, *id)?;
+    }
+    Ok(runs)
+}
+
+/// The ids by session. They are put in in order, so that each goes to the end.
+fn runs_of_ids(alloc: Global, ids: &[TxnId]) -> Result<Vec<Run>, NoMemory>
+    ensures { IfOk result (λ runs. AreRunsOfIds ids.now runs.items) }
+{
+    if ids.is_sorted() {
+        return runs_of_each(alloc, ids);
+    }
+    let mut sorted = Vec::from_slice(alloc, ids)?;
+    sorted.sort()?;
+    let runs = runs_of_each(alloc, &sorted)?;
+    Ok(runs)
+}
 
 /// Whether each other one of the run reaches the transaction, or is reached by it: the first that doesn't reach it, if there is one, tells
 /// of those behind.

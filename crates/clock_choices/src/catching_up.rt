@@ -3,22 +3,22 @@ ghost use Rattle.std.specs.Prelude.{◌≡◌, ◌+◌, ◌<◌, ◌^◌, List, 
 ghost use Rattle.txn.specs.declared.transactions.TxnId.{TxnId};
 ghost use Rattle.order_check.specs.declared.remainder.Parts.{Parts};
 ghost use Rattle.order_check.specs.Good.{IsGood};
-ghost use Rattle.key_index.specs.Indexing.{IsIndex};
 ghost use Rattle.clock_choices.specs.CatchingUp.{GoesOn};
 ghost use Rattle.clock_choices.specs.Extending.{Extends};
 ghost use Rattle.clock_choices.specs.Growth.{AreIdsFrom, IsNext};
 ghost use Rattle.clock_choices.specs.Held.{IsHeld};
+ghost use Rattle.clock_choices.specs.Indexing.{IsIndex};
 ghost use Rattle.clock_choices.specs.SaturatedState.{AreNewBehind};
 ghost use Rattle.clock_choices.specs.Steps.{bare};
 
 use crate::due::Due;
+use crate::indexing::{Index, add_txns};
 use crate::linking::link_txns;
 use crate::nodes::{add_nodes, remove_nodes};
 use crate::passing::note_txns;
 use crate::saturating::saturate;
 use crate::spread::spread_of;
 use crate::steps::Forced;
-use key_index::{Index, add_txns};
 use order_check::Parts;
 use session_clocks::Graph;
 use std::alloc::Global;

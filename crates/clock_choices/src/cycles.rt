@@ -9,8 +9,8 @@ ghost use Rattle.clock_choices.specs.Cycling.{AreLookedUp, Fits, IsRightOf};
 ghost use Rattle.clock_choices.specs.Logging.{HasRight, IsStepFrom};
 ghost use Rattle.clock_choices.specs.Over.{IsOver};
 
+use crate::indexing::is_base_source;
 use crate::steps::Forced;
-use key_index::is_base_source;
 use order_check::Parts;
 use session_clocks::Graph;
 use std::alloc::Global;

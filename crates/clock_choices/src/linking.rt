@@ -7,19 +7,19 @@ ghost use Rattle.order_check.specs.declared.remainder.Parts.{Parts};
 ghost use Rattle.order_check.specs.Based.{Remains};
 ghost use Rattle.order_check.specs.Known.{ReadsBase, ReadsKey};
 ghost use Rattle.session_clocks.specs.Graphs.{HasNode};
-ghost use Rattle.key_index.specs.declared.runs.Run.{Run};
-ghost use Rattle.key_index.specs.Index.{AreRunsOf, IsRead, runs_of};
-ghost use Rattle.key_index.specs.Indexing.{IsIndex};
 ghost use Rattle.clock_choices.specs.Extending.{Extends, reached_in};
 ghost use Rattle.clock_choices.specs.Forcing.{IsGrowth};
-ghost use Rattle.clock_choices.specs.RunsThere.{IsRunThere};
+ghost use Rattle.clock_choices.specs.declared.runs.Run.{Run};
+ghost use Rattle.clock_choices.specs.Index.{AreRunsOf, IsRead, IsRunThere, runs_of};
+ghost use Rattle.clock_choices.specs.Indexing.{IsIndex};
 ghost use Rattle.clock_choices.specs.Linking.{AreNodesOf, AreWritersLinked, Brings, IsBaseLinked, IsBeforeRun, IsLinked, IsSessionLinked, IsTxnLinked};
 
 use crate::due::Due;
-use key_index::{
-    Index, Read, Run, count_below, first_from, is_base_source, is_in_runs, list_of, reads_of,
-    runs_of,
-};
+use crate::index::{is_in_runs, reads_of, runs_of};
+use crate::indexing::{Index, is_base_source};
+use crate::lists::list_of;
+use crate::reads::Read;
+use crate::runs::{Run, count_below, first_from};
 use order_check::Parts;
 use session_clocks::Graph;
 use std::alloc::Global;

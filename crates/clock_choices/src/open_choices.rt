@@ -7,24 +7,25 @@ ghost use Rattle.order_check.specs.Based.{Remains};
 ghost use Rattle.order_check.specs.Good.{IsGood};
 ghost use Rattle.order_check.specs.Known.{AreOpenChoices, Known, ReadsKey, WritesKey};
 ghost use Rattle.session_clocks.specs.Graphs.{HasNode};
-ghost use Rattle.key_index.specs.Index.{AreRunsOf, IsRead};
-ghost use Rattle.key_index.specs.Indexing.{AreInOrder, IsIndex};
-ghost use Rattle.key_index.specs.SharedIndexes.{IsIndexIn};
-ghost use Rattle.key_index.specs.Writers.{AreRuns};
 ghost use Rattle.clock_choices.specs.Counted.{IsCounted, TalliesOn};
 ghost use Rattle.clock_choices.specs.CountedChoices.{AreFirstOpen};
 ghost use Rattle.clock_choices.specs.Extending.{reached_in};
-ghost use Rattle.clock_choices.specs.RunsThere.{IsRunThere};
+ghost use Rattle.clock_choices.specs.Index.{AreRunsOf, IsRead, IsRunThere};
+ghost use Rattle.clock_choices.specs.Indexing.{AreInOrder, IsIndex};
 ghost use Rattle.clock_choices.specs.KeptLists.{IsListed};
 ghost use Rattle.clock_choices.specs.Linking.{AreNodesOf};
 ghost use Rattle.clock_choices.specs.Opens.{AreOpenOf, IsAsked, IsOfReader, IsOfRun, IsOfSource, IsRunOfRead, choices_at, read_of};
+ghost use Rattle.clock_choices.specs.SharedIndexes.{IsIndexIn};
+ghost use Rattle.clock_choices.specs.Writers.{AreRuns};
 
 use crate::first_open::Asked;
+use crate::index::{is_in_runs, runs_of};
+use crate::indexing::{Index, remaining_ids_of};
+use crate::reads::Read;
+use crate::runs::Run;
 use crate::settling::choice_of;
+use crate::sharing::{SharedIndex, shared_index};
 use crate::spans::open_span;
-use key_index::{
-    Index, Read, Run, SharedIndex, is_in_runs, remaining_ids_of, runs_of, shared_index,
-};
 use order_check::Parts;
 use session_clocks::Graph;
 use std::alloc::{AllocError, Global};

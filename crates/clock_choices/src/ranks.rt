@@ -7,9 +7,9 @@ ghost use Rattle.order_check.specs.Explains.{KeepsSessions};
 ghost use Rattle.order_check.specs.Known.{Known};
 ghost use Rattle.session_clocks.specs.Graphs.{HasNode};
 ghost use Rattle.session_clocks.specs.Reach.{Reaches};
-ghost use Rattle.key_index.specs.Indexing.{AreInOrder};
 ghost use Rattle.clock_choices.specs.AllThere.{all_there};
 ghost use Rattle.clock_choices.specs.BranchState.{assumed};
+ghost use Rattle.clock_choices.specs.Indexing.{AreInOrder};
 ghost use Rattle.clock_choices.specs.Ranks.{Counts, AreRanked, ids_of};
 
 use crate::branch::Branch;

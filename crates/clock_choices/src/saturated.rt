@@ -10,22 +10,21 @@ ghost use Rattle.order_check.specs.Good.{IsGood};
 ghost use Rattle.order_check.specs.Known.{AreOpenChoices, Known};
 ghost use Rattle.order_check.specs.StandsFor.{parts_closed, parts_with};
 ghost use Rattle.session_clocks.specs.Reach.{Reaches};
-ghost use Rattle.key_index.specs.SharedIndexes.{IsIndexIn};
 ghost use Rattle.clock_choices.specs.CountedChoices.{AreFirstOpen};
 ghost use Rattle.clock_choices.specs.Held.{IsHeld};
 ghost use Rattle.clock_choices.specs.Over.{IsOver};
 ghost use Rattle.clock_choices.specs.SaturatedState.{AreNewBehind, LogsOnAfterCut, fragment_of, sides_logged};
+ghost use Rattle.clock_choices.specs.SharedIndexes.{IsIndexIn};
 ghost use Rattle.clock_choices.specs.Steps.{bare};
 
 use crate::catching_up::catch_up;
 use crate::cutting::left_steps;
 use crate::cycles::cycle_of_step;
+use crate::indexing::{index_of, remaining_ids_of};
 use crate::open_choices::{Listed, OpenChoices, all_of, listed_for, open_of};
+use crate::sharing::{SharedIndex, kept_index, own_index, shared_index, shared_or_none};
 use crate::steps::Forced;
 use crate::whole::relation_of;
-use key_index::{
-    SharedIndex, index_of, kept_index, own_index, remaining_ids_of, shared_index, shared_or_none,
-};
 use order_check::{
     Parts, cut_keeps_known, cut_keeps_received, cut_leaves_the_rest, cut_moves_base,
 };
@@ -52,10 +51,10 @@ impl Model for Saturated {
     ghost use Rattle.std.specs.Coded.{codes};
     ghost use Rattle.order_check.specs.Codes.{coded_last};
     ghost use Rattle.order_check.specs.Good.{IsGood};
-    ghost use Rattle.key_index.specs.SharedIndexes.{IsIndexIn};
     ghost use Rattle.clock_choices.specs.Held.{IsHeld};
     ghost use Rattle.clock_choices.specs.KeptLists.{IsListed};
     ghost use Rattle.clock_choices.specs.SaturatedState.{SaturatedState};
+    ghost use Rattle.clock_choices.specs.SharedIndexes.{IsIndexIn};
     ghost use Rattle.clock_choices.specs.Steps.{bare};
 
     ghost Value = { SaturatedState };

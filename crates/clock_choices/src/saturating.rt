@@ -3,18 +3,19 @@ ghost use Rattle.std.specs.Prelude.{◌⊎◌, ℕ, [], All, Contains, IfOk, IsT
 ghost use Rattle.txn.specs.declared.transactions.TxnId.{TxnId};
 ghost use Rattle.order_check.specs.declared.remainder.Parts.{Parts};
 ghost use Rattle.session_clocks.specs.Graphs.{HasNode};
-ghost use Rattle.key_index.specs.Index.{AreReadsOf, AreRunsOf, IsRead, reads_of, runs_of};
 ghost use Rattle.clock_choices.specs.Extending.{Extends, reached_in};
 ghost use Rattle.clock_choices.specs.Forcing.{Forces, IsGrowth};
-ghost use Rattle.clock_choices.specs.RunsThere.{IsRunThere};
+ghost use Rattle.clock_choices.specs.Index.{AreReadsOf, AreRunsOf, IsRead, IsRunThere, reads_of, runs_of};
 ghost use Rattle.clock_choices.specs.Closed.{IsClosed};
 ghost use Rattle.clock_choices.specs.Pending.{IsClosedBut};
 ghost use Rattle.clock_choices.specs.Stages.{IsLeftTo, IsReadSettled, IsTxnSettled};
 
 use crate::due::Due;
+use crate::index::{is_in_runs, reads_of, runs_of};
+use crate::reads::Read;
+use crate::runs::Run;
 use crate::settling::settle_read;
 use crate::steps::Forced;
-use key_index::{Read, Run, is_in_runs, reads_of, runs_of};
 use session_clocks::Graph;
 use std::alloc::{AllocError, Global};
 use std::collections::BTreeMap;

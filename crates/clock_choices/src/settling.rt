@@ -5,13 +5,14 @@ ghost use Rattle.txn.specs.declared.choices.Side.TheVariants.{First, Second};
 ghost use Rattle.txn.specs.declared.transactions.TxnId.{TxnId};
 ghost use Rattle.order_check.specs.declared.remainder.Parts.{Parts};
 ghost use Rattle.session_clocks.specs.Graphs.{HasNode};
-ghost use Rattle.key_index.specs.declared.runs.Run.{Run};
+ghost use Rattle.clock_choices.specs.declared.runs.Run.{Run};
 ghost use Rattle.clock_choices.specs.Extending.{Extends, reached_in};
 ghost use Rattle.clock_choices.specs.Forcing.{AreRunChoices, Decides, Forces, IsForcedIn, IsGrowth, IsRunSettled, IsSideSettled, choice_of};
-ghost use Rattle.clock_choices.specs.RunsThere.{IsRunThere};
+ghost use Rattle.clock_choices.specs.Index.{IsRunThere};
 
+use crate::reads::Read;
+use crate::runs::{Run, count_below, count_below_near, first_behind, last_in};
 use crate::steps::Forced;
-use key_index::{Read, Run, count_below, count_below_near, first_behind, last_in};
 use session_clocks::Graph;
 use std::alloc::Global;
 use txn::{Arc, Choice, NoMemory, Side, TxnId};

@@ -4,10 +4,11 @@ ghost use Rattle.std.specs.Prelude.{◌<◌, ℕ, length};
 ghost use Rattle.txn.specs.declared.transactions.TxnId.{TxnId};
 ghost use Rattle.session_clocks.specs.Graphs.{HasNode};
 ghost use Rattle.session_clocks.specs.Reach.{Reaches};
-ghost use Rattle.key_index.specs.Runs.{Climbs};
+ghost use Rattle.clock_choices.specs.Runs.{Climbs};
 ghost use Rattle.clock_choices.specs.Spans.{IsOpenSpan, id_at};
 
-use key_index::{Read, count_below};
+use crate::reads::Read;
+use crate::runs::count_below;
 use session_clocks::Graph;
 
 /// From which place on the session's numbers have open choices of the read, and up to before which.

@@ -3,19 +3,19 @@ ghost use Rattle.std.specs.Prelude.{◌≡◌, [], length, map, All, Contains, I
 ghost use Rattle.order_check.specs.Based.{Remains};
 ghost use Rattle.order_check.specs.Cycles.{AreNew};
 ghost use Rattle.order_check.specs.Good.{IsGood};
-ghost use Rattle.key_index.specs.Indexing.{IsIndex};
 ghost use Rattle.clock_choices.specs.Held.{IsHeld};
+ghost use Rattle.clock_choices.specs.Indexing.{IsIndex};
 ghost use Rattle.clock_choices.specs.Over.{IsOver};
 ghost use Rattle.clock_choices.specs.Steps.{bare};
 ghost use Rattle.clock_choices.specs.Whole.{AreAll, IsGraphOf};
 
 use crate::by_sources::graph_by_sources;
 use crate::due::Due;
+use crate::indexing::{Index, remaining_ids_of};
 use crate::linking::link_txns;
 use crate::saturating::saturate;
 use crate::spread::spread_of;
 use crate::steps::Forced;
-use key_index::{Index, remaining_ids_of};
 use order_check::Parts;
 use session_clocks::Graph;
 use std::alloc::Global;

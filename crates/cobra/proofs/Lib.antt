@@ -28,6 +28,3 @@ pub mod SplitStages
 pub mod StrictLines
 pub mod StrictReports
 pub mod TrueReports
-pub mod TrueSplit
-pub mod TrueCommands
-pub mod TrueSteps

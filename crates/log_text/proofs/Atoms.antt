@@ -1,26 +1,33 @@
 -- The forms that are read by a few words and numbers.
 use Rattle.std.proofs.Common.{◌≡◌, ℕ, zero, suc, ◌^◌, ◌≤◌, ◌&&◌, subst, Bool, true, false, List, codes, Option, Some, None, option_map, option_and_then, refl, sym, ap, ◌∙◌, arith}
 use Rattle.std.specs.Prelude.{⊤, bytes_eq, if◌then◌else◌}
+use Rattle.txn.specs.declared.transactions.TxnId.{TxnId}
+use Rattle.log_text.specs.declared.names.Names.{Names}
+use Rattle.log_text.specs.declared.names.Names.TheVariants.{Ids, Events}
 use Rattle.serde_json.specs.Data.{Data, null, boolean, number, string, array, object, unsigned, negative, float, Items, no_items, item}
-use Rattle.log_text.specs.Commands.{init_of, source_in, read_in, start_in, resume_in, close_in, effort_in, waits_by, waits_in, writer_in, save_named, save_in}
+use Rattle.log_text.specs.Commands.{init_of, source_in, read_in, aborted_by, aborted_in, start_in, resume_in, close_in, effort_in, waits_by, waits_in, writer_in, save_named, save_in}
 use Rattle.log_text.specs.Items.{with_both, with_three, with_four, alone, one_item, two_items, three_items}
-use Rattle.log_text.specs.Numbers.{whole_number, if_within, number_within, session_of}
+use Rattle.log_text.specs.Lines.{plain_named}
+use Rattle.log_text.specs.Numbers.{whole_number, if_within, number_within, session_of, word_of}
+use Rattle.log_text.specs.Named.{commit_by, commit_named, half_at, id_at, if_low, low_number}
+use Rattle.log_text.specs.Refutations.{choice_with, choice_in, ends_in, keyed_ends_in, read_arc, base_arc, arc_named, arc_in, reader_with, reader_in}
 use Rattle.log_text.specs.Searches.{search_in, search_of}
 use Rattle.log_text.specs.Streams.{is_atom, is_few, TakesFew}
 use Rattle.log_text.specs.Versions.{version_in, version_numbered, promise_of, opening_in, promise_or, promise_in, strict_in, strict_of}
 use Rattle.log_text.specs.declared.versions.Opening.{Opening}
 use Rattle.log_text.specs.declared.versions.Version.{Version}
+use Rattle.log_text.specs.declared.commands.Command.TheVariants.{Begin, Skip, Truncate, Rebuild, Show, Resumed}
 
-abbrev pub IsThere : {X : Type 0} → Option X → Type 0
+abbrev IsThere : {X : Type 0} → Option X → Type 0
 IsThere None = ⊥
 IsThere (Some x) = ⊤
 
-abbrev pub IsAtom : Data → Type 0
+abbrev IsAtom : Data → Type 0
 IsAtom (string word) = ⊤
 IsAtom (number (unsigned n)) = ⊤
 IsAtom given = ⊥
 
-abbrev pub AreFewAtoms : ℕ → Items → Type 0
+abbrev AreFewAtoms : ℕ → Items → Type 0
 AreFewAtoms most no_items = ⊤
 AreFewAtoms zero (item given rest) = ⊥
 AreFewAtoms (suc most) (item given rest) = IsAtom given × AreFewAtoms most rest
@@ -43,7 +50,7 @@ few_is (suc most) no_items few = refl
 few_is zero (item given rest) never = absurd never
 few_is (suc most) (item given rest) few = ap (λ (atom : Bool). atom && is_few most rest) (atom_is given few.0) ∙ few_is most rest few.1
 
-pub of_few : {X : Type 0} (most : ℕ) (form : Items → Option X) → ((given : Items) → IsThere (form given) → AreFewAtoms most given) → TakesFew most form
+of_few : {X : Type 0} (most : ℕ) (form : Items → Option X) → ((given : Items) → IsThere (form given) → AreFewAtoms most given) → TakesFew most form
 of_few {X} most form few given many = none (form given) refl
   where
     none : (found : Option X) → form given ≡ found → found ≡ None
@@ -71,7 +78,7 @@ takes_more fewer more form less takes given many = takes given (few_and_more few
 
 -- ---- parts of a form
 
-pub number_atom : (given : Data) → IsThere (whole_number given) → IsAtom given
+number_atom : (given : Data) → IsThere (whole_number given) → IsAtom given
 number_atom null never = absurd never
 number_atom (boolean b) never = absurd never
 number_atom (number (unsigned n)) there = tt
@@ -89,27 +96,27 @@ init_atom (string word) there = tt
 init_atom (array items) never = absurd never
 init_atom (object ms) never = absurd never
 
-pub then_there : {A X : Type 0} (next : A → Option X) (found : Option A) → IsThere (option_and_then next found) → IsThere found
+then_there : {A X : Type 0} (next : A → Option X) (found : Option A) → IsThere (option_and_then next found) → IsThere found
 then_there next None never = never
 then_there next (Some a) there = tt
 
-pub map_there : {A X : Type 0} (make : A → X) (found : Option A) → IsThere (option_map make found) → IsThere found
+map_there : {A X : Type 0} (make : A → X) (found : Option A) → IsThere (option_map make found) → IsThere found
 map_there make None never = never
 map_there make (Some a) there = tt
 
 within_atom : (least most : ℕ) (given : Data) → IsThere (number_within least most given) → IsAtom given
 within_atom least most given there = number_atom given (then_there (if_within least most) (whole_number given) there)
 
-pub session_atom : (given : Data) → IsThere (session_of given) → IsAtom given
+session_atom : (given : Data) → IsThere (session_of given) → IsAtom given
 session_atom = within_atom 0 255
 
-pub both_there : {A B X : Type 0} (make : A → B → X) (a : Option A) (b : Option B) → IsThere (with_both make a b) → IsThere a × IsThere b
+both_there : {A B X : Type 0} (make : A → B → X) (a : Option A) (b : Option B) → IsThere (with_both make a b) → IsThere a × IsThere b
 both_there make None None never = absurd never
 both_there make None (Some b) never = absurd never
 both_there make (Some a) None never = absurd never
 both_there make (Some a) (Some b) there = (tt, tt)
 
-pub three_there : {A B C X : Type 0} (make : A → B → C → X) (a : Option A) (b : Option B) (c : Option C) → IsThere (with_three make a b c) → IsThere a × IsThere b × IsThere c
+three_there : {A B C X : Type 0} (make : A → B → C → X) (a : Option A) (b : Option B) (c : Option C) → IsThere (with_three make a b c) → IsThere a × IsThere b × IsThere c
 three_there make None b c never = absurd never
 three_there make (Some a) None c never = absurd never
 three_there make (Some a) (Some b) None never = absurd never
@@ -144,7 +151,7 @@ three_few make f g h first second third (item a (item b (item c no_items))) ther
 three_few make f g h first second third (item a (item b (item c (item d rest)))) never = absurd never
 
 -- whichever of the two it is, it is of few atoms
-pub either_few : {X : Type 0} (test : Bool) (one never : Option X) (P : Type 0) → (IsThere one → P) → (IsThere never → P) → IsThere (if test then one else never) → P
+either_few : {X : Type 0} (test : Bool) (one never : Option X) (P : Type 0) → (IsThere one → P) → (IsThere never → P) → IsThere (if test then one else never) → P
 either_few true one never P here there given = here given
 either_few false one never P here there given = there given
 
@@ -277,7 +284,7 @@ waits_few (item a no_items) there = (waits_atom a there, tt)
 waits_few (item a (item b rest)) never = absurd never
 
 -- one item at most, of four
-pub waits_take_few : TakesFew 4 waits_in
+waits_take_few : TakesFew 4 waits_in
 waits_take_few parts many = takes_more 1 4 waits_in (omega arith) (of_few 1 waits_in waits_few) parts many
 
 pub writer_takes_few : TakesFew 3 writer_in
@@ -310,3 +317,179 @@ save_few (item (object ms) rest) never = absurd never
 
 pub save_takes_few : TakesFew 3 save_in
 save_takes_few = of_few 3 save_in save_few
+
+-- ---- the forms of trees and orders
+
+at_atoms : (a b : Data) → IsThere (id_at a b) → IsAtom a × IsAtom b
+at_atoms a b there = let both = both_there _ (session_of a) (whole_number b) there in (session_atom a both.0, number_atom b both.1)
+
+word_atom : (given : Data) → IsThere (word_of given) → IsAtom given
+word_atom null never = absurd never
+word_atom (boolean b) never = absurd never
+word_atom (number n) never = absurd never
+word_atom (string word) there = tt
+word_atom (array items) never = absurd never
+word_atom (object ms) never = absurd never
+
+half_atoms : (a b c : Data) → IsThere (half_at a b c) → IsAtom a × IsAtom b × IsAtom c
+half_atoms a b c there =
+    let all = three_there _ (session_of a) (low_number b) (commit_by c) there in
+    (session_atom a all.0, number_atom b (then_there if_low (whole_number b) all.1), word_atom c (then_there commit_named (word_of c) all.2))
+
+parts_there : (names : Names) (reader : Option TxnId) (key : Option ℕ) (writer other : Option TxnId) → IsThere (choice_with names reader key writer other) → IsThere reader × IsThere key × IsThere writer × IsThere other
+parts_there names None key writer other never = absurd never
+parts_there names (Some a) None writer other never = absurd never
+parts_there names (Some a) (Some b) None other never = absurd never
+parts_there names (Some a) (Some b) (Some c) None never = absurd never
+parts_there names (Some a) (Some b) (Some c) (Some d) there = (tt, tt, tt, tt)
+
+choice_few : (names : Names) (given : Items) → IsThere (choice_in names given) → AreFewAtoms 10 given
+choice_few Ids no_items never = absurd never
+choice_few Ids (item a no_items) never = absurd never
+choice_few Ids (item a (item b no_items)) never = absurd never
+choice_few Ids (item a (item b (item c no_items))) never = absurd never
+choice_few Ids (item a (item b (item c (item d no_items)))) never = absurd never
+choice_few Ids (item a (item b (item c (item d (item e no_items))))) never = absurd never
+choice_few Ids (item a (item b (item c (item d (item e (item f no_items)))))) never = absurd never
+choice_few Ids (item a (item b (item c (item d (item e (item f (item g no_items))))))) there =
+    let all = parts_there Ids (id_at a b) (whole_number c) (id_at d e) (id_at f g) there in
+    let reader = at_atoms a b all.0 in
+    let writer = at_atoms d e all.2 in
+    let other = at_atoms f g all.3 in (reader.0, (reader.1, (number_atom c all.1, (writer.0, (writer.1, (other.0, (other.1, tt)))))))
+choice_few Ids (item a (item b (item c (item d (item e (item f (item g (item h rest)))))))) never = absurd never
+choice_few Events no_items never = absurd never
+choice_few Events (item a no_items) never = absurd never
+choice_few Events (item a (item b no_items)) never = absurd never
+choice_few Events (item a (item b (item c no_items))) never = absurd never
+choice_few Events (item a (item b (item c (item d no_items)))) never = absurd never
+choice_few Events (item a (item b (item c (item d (item e no_items))))) never = absurd never
+choice_few Events (item a (item b (item c (item d (item e (item f no_items)))))) never = absurd never
+choice_few Events (item a (item b (item c (item d (item e (item f (item g no_items))))))) never = absurd never
+choice_few Events (item a (item b (item c (item d (item e (item f (item g (item h no_items)))))))) never = absurd never
+choice_few Events (item a (item b (item c (item d (item e (item f (item g (item h (item i no_items))))))))) never = absurd never
+choice_few Events (item a (item b (item c (item d (item e (item f (item g (item h (item i (item j no_items)))))))))) there =
+    let all = parts_there Events (half_at a b c) (whole_number d) (half_at e f g) (half_at h i j) there in
+    let reader = half_atoms a b c all.0 in
+    let writer = half_atoms e f g all.2 in
+    let other = half_atoms h i j all.3 in (reader.0, (reader.1, (reader.2, (number_atom d all.1, (writer.0, (writer.1, (writer.2, (other.0, (other.1, (other.2, tt))))))))))
+choice_few Events (item a (item b (item c (item d (item e (item f (item g (item h (item i (item j (item k rest))))))))))) never = absurd never
+
+pub choice_takes_few : (names : Names) → TakesFew 10 (choice_in names)
+choice_takes_few names = of_few 10 (choice_in names) (choice_few names)
+
+ends_few : (names : Names) (given : Items) → IsThere (ends_in names given) → AreFewAtoms 6 given
+ends_few Ids no_items never = absurd never
+ends_few Ids (item a no_items) never = absurd never
+ends_few Ids (item a (item b no_items)) never = absurd never
+ends_few Ids (item a (item b (item c no_items))) never = absurd never
+ends_few Ids (item a (item b (item c (item d no_items)))) there =
+    let both = both_there _ (id_at a b) (id_at c d) there in
+    let from = at_atoms a b both.0 in
+    let to = at_atoms c d both.1 in (from.0, (from.1, (to.0, (to.1, tt))))
+ends_few Ids (item a (item b (item c (item d (item e rest))))) never = absurd never
+ends_few Events no_items never = absurd never
+ends_few Events (item a no_items) never = absurd never
+ends_few Events (item a (item b no_items)) never = absurd never
+ends_few Events (item a (item b (item c no_items))) never = absurd never
+ends_few Events (item a (item b (item c (item d no_items)))) never = absurd never
+ends_few Events (item a (item b (item c (item d (item e no_items))))) never = absurd never
+ends_few Events (item a (item b (item c (item d (item e (item f no_items)))))) there =
+    let both = both_there _ (half_at a b c) (half_at d e f) there in
+    let from = half_atoms a b c both.0 in
+    let to = half_atoms d e f both.1 in (from.0, (from.1, (from.2, (to.0, (to.1, (to.2, tt))))))
+ends_few Events (item a (item b (item c (item d (item e (item f (item g rest))))))) never = absurd never
+
+keyed_few : (names : Names) (given : Items) → IsThere (keyed_ends_in names given) → AreFewAtoms 7 given
+keyed_few names no_items never = absurd never
+keyed_few names (item a rest) there = let both = both_there _ (whole_number a) (ends_in names rest) there in (number_atom a both.0, ends_few names rest both.1)
+
+one_more_few : (most : ℕ) (given : Items) → AreFewAtoms most given → AreFewAtoms (suc most) given
+one_more_few zero no_items few = tt
+one_more_few zero (item a rest) never = absurd never
+one_more_few (suc most) no_items few = tt
+one_more_few (suc most) (item a rest) few = (few.0, one_more_few most rest few.1)
+
+arc_few : (names : Names) (name : List ℕ) (given : Items) → IsThere (arc_named names name given) → AreFewAtoms 7 given
+arc_few names name given there =
+    either_few (bytes_eq name (codes "session")) _ _ (AreFewAtoms 7 given) (λ here. one_more_few 6 given (ends_few names given (map_there _ (ends_in names given) here)))
+    (λ there. either_few (bytes_eq name (codes "read")) _ _ (AreFewAtoms 7 given) (λ here. keyed_few names given (then_there (read_arc names) (keyed_ends_in names given) here))
+    (λ there. either_few (bytes_eq name (codes "base")) _ _ (AreFewAtoms 7 given) (λ here. keyed_few names given (then_there (base_arc names) (keyed_ends_in names given) here))
+    (λ there. either_few (bytes_eq name (codes "taken")) _ _ (AreFewAtoms 7 given) (λ here. one_more_few 6 given (ends_few names given (map_there _ (ends_in names given) here))) (λ never. absurd never) there) there) there) there
+
+named_few : (names : Names) (given : Items) → IsThere (arc_in names given) → AreFewAtoms 8 given
+named_few names no_items never = absurd never
+named_few names (item null rest) never = absurd never
+named_few names (item (boolean b) rest) never = absurd never
+named_few names (item (number n) rest) never = absurd never
+named_few names (item (string word) rest) there = (tt, arc_few names word rest there)
+named_few names (item (array items) rest) never = absurd never
+named_few names (item (object ms) rest) never = absurd never
+
+pub arc_takes_few : (names : Names) → TakesFew 8 (arc_in names)
+arc_takes_few names = of_few 8 (arc_in names) (named_few names)
+
+key_there : (names : Names) (reader : Option TxnId) (key : Option ℕ) → IsThere (reader_with names reader key) → IsThere reader × IsThere key
+key_there names None key never = absurd never
+key_there names (Some a) None never = absurd never
+key_there names (Some a) (Some b) there = (tt, tt)
+
+reader_few : (names : Names) (given : Items) → IsThere (reader_in names given) → AreFewAtoms 4 given
+reader_few Ids no_items never = absurd never
+reader_few Ids (item a no_items) never = absurd never
+reader_few Ids (item a (item b no_items)) never = absurd never
+reader_few Ids (item a (item b (item c no_items))) there =
+    let both = key_there Ids (id_at a b) (whole_number c) there in
+    let reader = at_atoms a b both.0 in (reader.0, (reader.1, (number_atom c both.1, tt)))
+reader_few Ids (item a (item b (item c (item d rest)))) never = absurd never
+reader_few Events no_items never = absurd never
+reader_few Events (item a no_items) never = absurd never
+reader_few Events (item a (item b no_items)) never = absurd never
+reader_few Events (item a (item b (item c no_items))) never = absurd never
+reader_few Events (item a (item b (item c (item d no_items)))) there =
+    let both = key_there Events (half_at a b c) (whole_number d) there in
+    let reader = half_atoms a b c both.0 in (reader.0, (reader.1, (reader.2, (number_atom d both.1, tt))))
+reader_few Events (item a (item b (item c (item d (item e rest))))) never = absurd never
+
+pub reader_takes_few : (names : Names) → TakesFew 4 (reader_in names)
+reader_takes_few names = of_few 4 (reader_in names) (reader_few names)
+
+-- ---- what stands behind a transaction's writes
+
+aborted_atom : (given : Data) → IsThere (aborted_by given) → IsAtom given
+aborted_atom null never = absurd never
+aborted_atom (boolean b) never = absurd never
+aborted_atom (number n) never = absurd never
+aborted_atom (string word) there = tt
+aborted_atom (array items) never = absurd never
+aborted_atom (object ms) never = absurd never
+
+aborted_few : (given : Items) → IsThere (aborted_in given) → AreFewAtoms 1 given
+aborted_few no_items there = tt
+aborted_few (item a no_items) there = (aborted_atom a there, tt)
+aborted_few (item a (item b rest)) never = absurd never
+
+pub aborted_takes_few : TakesFew 1 aborted_in
+aborted_takes_few = of_few 1 aborted_in aborted_few
+
+-- ---- commands whose parts are words and numbers
+
+if_none : {X : Type 0} (test : Bool) (one other : Option X) → one ≡ None → other ≡ None → (if test then one else other) ≡ None
+if_none true one other none never = none
+if_none false one other never none = none
+
+pub plain_takes_few : (name : List ℕ) → TakesFew 4 (plain_named name)
+plain_takes_few name parts many =
+    if_none (bytes_eq name (codes "open")) _ _ (start_takes_few parts many)
+    (if_none (bytes_eq name (codes "close")) _ _ (takes_more 1 4 close_in (omega arith) close_takes_few parts many)
+    (if_none (bytes_eq name (codes "begin")) _ _ (takes_more 0 4 (alone Begin) (omega arith) (alone_takes_few Begin) parts many)
+    (if_none (bytes_eq name (codes "finish")) _ _ (map_takes_few _ 4 effort_in effort_takes_few parts many)
+    (if_none (bytes_eq name (codes "round")) _ _ (map_takes_few _ 4 effort_in effort_takes_few parts many)
+    (if_none (bytes_eq name (codes "search")) _ _ (map_takes_few _ 4 effort_in effort_takes_few parts many)
+    (if_none (bytes_eq name (codes "collect")) _ _ (map_takes_few _ 4 waits_in waits_take_few parts many)
+    (if_none (bytes_eq name (codes "skip")) _ _ (takes_more 0 4 (alone Skip) (omega arith) (alone_takes_few Skip) parts many)
+    (if_none (bytes_eq name (codes "truncate")) _ _ (takes_more 0 4 (alone Truncate) (omega arith) (alone_takes_few Truncate) parts many)
+    (if_none (bytes_eq name (codes "rebuild")) _ _ (takes_more 0 4 (alone Rebuild) (omega arith) (alone_takes_few Rebuild) parts many)
+    (if_none (bytes_eq name (codes "show")) _ _ (takes_more 0 4 (alone Show) (omega arith) (alone_takes_few Show) parts many)
+    (if_none (bytes_eq name (codes "resume")) _ _ (resume_takes_few parts many)
+    (if_none (bytes_eq name (codes "resumed")) _ _ (takes_more 0 4 (alone Resumed) (omega arith) (alone_takes_few Resumed) parts many)
+    (if_none (bytes_eq name (codes "save")) _ _ (takes_more 3 4 save_in (omega arith) save_takes_few parts many) refl)))))))))))))

@@ -12,8 +12,7 @@ use Rattle.log_text.specs.Refutations.{node_named, node_in}
 use Rattle.log_text.specs.Numbers.{word_of}
 use Rattle.log_text.specs.Streams.{few_in, is_few, TakesFew, read_as, IsFoundAs, IsRead, AreRead}
 use Rattle.log_text.specs.declared.names.Names.{Names}
-use Rattle.log_text.proofs.TokensRead.{head_none, head_then, end_then, end_none, deeper, is_read, found_at}
-use Rattle.log_text.proofs.ItemsRead.{one_less, two_less, each_less}
+use Rattle.log_text.proofs.TokensRead.{head_none, head_then, end_then, end_none, deeper, is_read, one_less, two_less, each_less, found_at}
 
 -- ---- one item read
 

@@ -19,8 +19,7 @@ use Rattle.log_text.specs.declared.commands.Command.{Command}
 use Rattle.log_text.specs.declared.commands.Command.TheVariants.{Start, Offer, OfferTimed, Join, Resume, MarksBegun, Last}
 use Rattle.log_text.specs.declared.fragments.Behind.{Behind}
 use Rattle.log_text.specs.declared.fragments.Behind.TheVariants.{First, Txns}
-use Rattle.log_text.proofs.TokensRead.{are_read, are_read_map, deeper_items}
-use Rattle.log_text.proofs.ItemsRead.{same_form}
+use Rattle.log_text.proofs.TokensRead.{are_read, are_read_map, same_form, deeper_items}
 
 -- ---- offers
 

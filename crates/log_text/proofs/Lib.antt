@@ -1,7 +1,6 @@
 pub mod AnswersRead
 pub mod Arity
 pub mod Atoms
-pub mod NamedAtoms
 pub mod BuiltTrees
 pub mod EachItem
 pub mod FormsRead
@@ -19,8 +18,6 @@ pub mod SavedData
 pub mod SavedLengths
 pub mod SavedRead
 pub mod TokensRead
-pub mod ItemsRead
-pub mod FewRead
 pub mod ToldTexts
 pub mod TreesRead
 pub mod TxnsRead

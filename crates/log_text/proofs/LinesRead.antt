@@ -20,8 +20,7 @@ use Rattle.log_text.specs.declared.shown.Shown.{Shown}
 use Rattle.log_text.specs.declared.commands.Command.{Command}
 use Rattle.log_text.specs.declared.commands.Command.TheVariants.{Answer}
 use Rattle.log_text.proofs.AnswersRead.{answer_text}
-use Rattle.log_text.proofs.TokensRead.{array_none, array_then, head_none}
-use Rattle.log_text.proofs.ItemsRead.{told_at_name}
+use Rattle.log_text.proofs.TokensRead.{array_none, array_then, head_none, told_at_name}
 
 some_empty : {X : Type 0} (x : X) (xs : List X) → x ∷ xs ≡ [] → ⊥
 some_empty x xs e = let never : ⊥ = cc in never

@@ -8,8 +8,7 @@ use Rattle.log_text.specs.Numbers.{whole_number}
 use Rattle.log_text.specs.Streams.{IsRead, AreRead}
 use Rattle.log_text.specs.declared.commands.Command.{Command}
 use Rattle.log_text.specs.declared.commands.Command.TheVariants.{Marks, MarksBegun}
-use Rattle.log_text.proofs.TokensRead.{end_none, end_then, head_none, head_then, item_none}
-use Rattle.log_text.proofs.ItemsRead.{one_less}
+use Rattle.log_text.proofs.TokensRead.{end_none, end_then, head_none, head_then, item_none, one_less}
 
 module _ (marks : List ℕ) (closed : List Bool) where
   pub nothing_begun : (old new : List Token) (x : Command) → after_end_array old ≡ Some new → x ≡ Marks marks closed → AreRead (begun_in marks closed) 1 old (Some x) new

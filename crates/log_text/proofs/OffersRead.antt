@@ -11,8 +11,7 @@ use Rattle.log_text.specs.Numbers.{session_of, whole_number}
 use Rattle.log_text.specs.Streams.{IsRead, AreRead}
 use Rattle.log_text.specs.declared.commands.Command.{Command}
 use Rattle.log_text.specs.declared.commands.Command.TheVariants.{Offer, OfferTimed}
-use Rattle.log_text.proofs.TokensRead.{deeper, deeper_items, end_then, head_none, head_then, item_none}
-use Rattle.log_text.proofs.ItemsRead.{two_less}
+use Rattle.log_text.proofs.TokensRead.{deeper, deeper_items, end_then, head_none, head_then, item_none, two_less}
 
 module _ (logged : LoggedFragment) where
   pub no_times : (old new : List Token) (x : Command) → after_end_array old ≡ Some new → x ≡ Offer logged → AreRead (times_in logged) 1 old (Some x) new

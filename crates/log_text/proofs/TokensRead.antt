@@ -1,25 +1,27 @@
 -- A line is read token by token, in the form that its data are in.
-use Rattle.std.proofs.Common.{◌≡◌, ℕ, zero, suc, ◌≤◌, ◌<◌, List, [], ◌∷◌, ◌++◌, length, Option, Some, None, option_and_then, option_map, refl, sym, ap, ◌∙◌, subst, arith}
-use Rattle.std.specs.Prelude.{IfSome}
+use Rattle.std.proofs.Common.{◌≡◌, ℕ, zero, suc, ◌≤◌, ◌<◌, List, [], ◌∷◌, ◌++◌, length, Option, Some, None, option_and_then, option_map, refl, sym, ap, ◌∙◌, subst, arith, Vec, Global}
+use Rattle.std.specs.Prelude.{IfSome, IfOk, Result, Ok, Err, Bool, true, false, ◌&&◌, if◌then◌else◌}
 use Rattle.std.proofs.lemmas.List.{append_assoc, append-nil}
 use Rattle.json.specs.Token.{Token}
 use Rattle.json.specs.Json as json
 use Rattle.json.specs.Json.{Parse, parse_map, after_end_array, items_step, items, members, value_with, value}
 use Rattle.json.proofs.Grammar.{value_is, items_end, after_end_array-shorter}
-use Rattle.serde_json.specs.Data.{Data, Num, number, array, object, Items, no_items, item, Members, no_members}
+use Rattle.serde_json.specs.Data.{Data, Num, null, boolean, number, string, array, object, Items, no_items, item, Members, no_members}
 use Rattle.serde_json.specs.Read.{number_of, of_json, of_items, of_members, converted}
-use Rattle.log_text.specs.Items.{array_of, each_of}
-use Rattle.log_text.specs.Streams.{read_as, rest_as, IsFoundAs, IsRead, AreRead, ReadSoFar, opens_array, data_at}
+use Rattle.serde_json.specs.View.{view, items_view}
+use Rattle.serde_json.specs.declared.value.Value.{Value}
+use Rattle.log_text.specs.Items.{array_of, each_of, alone, one_item, two_items, three_items, with_both, with_three}
+use Rattle.log_text.specs.Streams.{read_as, rest_as, IsFoundAs, IsRead, AreRead, ReadSoFar, FewSoFar, TakesFew, opens_array, data_at, is_atom, is_few, few_in, atom_of, items_before}
 
 -- ---- what is told
 
-pub same_found : {X : Type 0} (told other : Option (X × List Token)) (found : Option X) (new : List Token) → told ≡ other → IsFoundAs other found new → IsFoundAs told found new
+same_found : {X : Type 0} (told other : Option (X × List Token)) (found : Option X) (new : List Token) → told ≡ other → IsFoundAs other found new → IsFoundAs told found new
 same_found told other None new same is = same ∙ is
 same_found told other (Some x) new same is = same ∙ is
 
 -- ---- brackets
 
-pub opened : (ts more : List Token) → opens_array ts ≡ Some more → ts ≡ Token.begin_array ∷ more
+opened : (ts more : List Token) → opens_array ts ≡ Some more → ts ≡ Token.begin_array ∷ more
 opened [] more e = absurd (let no : ⊥ = cc in no)
 opened (Token.begin_object ∷ ts) more e = absurd (let no : ⊥ = cc in no)
 opened (Token.end_object ∷ ts) more e = absurd (let no : ⊥ = cc in no)
@@ -67,7 +69,7 @@ none_of_object : {X : Type 0} (form : Data → Option X) → ((given : Members) 
 none_of_object form flat None = refl
 none_of_object form flat (Some given) = flat given
 
-pub told_object : {X : Type 0} (form : Data → Option X) → ((given : Members) → form (object given) ≡ None) → (o : Option (json.Members × List Token)) → converted (λ j. option_and_then form (of_json j)) (parse_map json.object o) ≡ None
+told_object : {X : Type 0} (form : Data → Option X) → ((given : Members) → form (object given) ≡ None) → (o : Option (json.Members × List Token)) → converted (λ j. option_and_then form (of_json j)) (parse_map json.object o) ≡ None
 told_object form none None = refl
 told_object form none (Some (ms, behind)) = ap (option_map (λ x. (x, behind))) (none_of_object form none (of_members ms no_members))
 
@@ -103,7 +105,7 @@ pub found_at : {X : Type 0} (told : Option (X × List Token)) (found : Option X)
 found_at told None new is = is
 found_at told (Some x) new is = is
 
-pub shorter_by_one : {X : Type 0} (found : Option X) (t : Token) (old new : List Token) → old ≡ t ∷ new → IfSome found (λ x. length new < length old)
+shorter_by_one : {X : Type 0} (found : Option X) (t : Token) (old new : List Token) → old ≡ t ∷ new → IfSome found (λ x. length new < length old)
 shorter_by_one None t old new is = tt
 shorter_by_one (Some x) t old new is = omega (arith, ap length is)
 
@@ -244,7 +246,7 @@ end_none {X} form nests old new going none = record { is = at; shorter = tt }
 
 -- ---- arrays
 
-pub array_form : {X : Type 0} (form : Items → Option X) (o : Option (json.Items × List Token)) → converted (λ j. option_and_then (array_of form) (of_json j)) (parse_map json.array o) ≡ converted (λ js. option_and_then form (of_items js)) o
+array_form : {X : Type 0} (form : Items → Option X) (o : Option (json.Items × List Token)) → converted (λ j. option_and_then (array_of form) (of_json j)) (parse_map json.array o) ≡ converted (λ js. option_and_then form (of_items js)) o
 array_form form None = refl
 array_form form (Some (js, behind)) = ap (option_map (λ x. (x, behind))) (inside (of_items js))
   where
@@ -295,7 +297,7 @@ array_none form nests old new none = record { is = λ depth deep. no_array form 
 
 -- ---- under a map
 
-pub converted_map : {A X Y : Type 0} (f : X → Y) (form : A → Option X) (o : Option (A × List Token)) → converted (λ a. option_map f (form a)) o ≡ option_map (λ (p : X × List Token). (f p.0, p.1)) (converted form o)
+converted_map : {A X Y : Type 0} (f : X → Y) (form : A → Option X) (o : Option (A × List Token)) → converted (λ a. option_map f (form a)) o ≡ option_map (λ (p : X × List Token). (f p.0, p.1)) (converted form o)
 converted_map f form None = refl
 converted_map {A} {X} {Y} f form (Some (a, behind)) = inside (form a)
   where
@@ -303,7 +305,7 @@ converted_map {A} {X} {Y} f form (Some (a, behind)) = inside (form a)
     inside None = refl
     inside (Some x) = refl
 
-pub same_converted : {A X : Type 0} (form other : A → Option X) (o : Option (A × List Token)) → ((a : A) → form a ≡ other a) → converted form o ≡ converted other o
+same_converted : {A X : Type 0} (form other : A → Option X) (o : Option (A × List Token)) → ((a : A) → form a ≡ other a) → converted form o ≡ converted other o
 same_converted form other None same = refl
 same_converted form other (Some p) same = ap (option_map (λ x. (x, p.1))) (same p.0)
 
@@ -311,11 +313,11 @@ map_items : {X Y : Type 0} (f : X → Y) (form : Items → Option X) (o : Option
 map_items f form None = refl
 map_items f form (Some given) = refl
 
-pub map_found : {X Y : Type 0} (f : X → Y) (told : Option (X × List Token)) (found : Option X) (new : List Token) → IsFoundAs told found new → IsFoundAs (option_map (λ (p : X × List Token). (f p.0, p.1)) told) (option_map f found) new
+map_found : {X Y : Type 0} (f : X → Y) (told : Option (X × List Token)) (found : Option X) (new : List Token) → IsFoundAs told found new → IsFoundAs (option_map (λ (p : X × List Token). (f p.0, p.1)) told) (option_map f found) new
 map_found f told None new is = ap (option_map (λ p. (f p.0, p.1))) is
 map_found f told (Some x) new is = ap (option_map (λ p. (f p.0, p.1))) is
 
-pub map_shorter : {X Y : Type 0} (f : X → Y) (found : Option X) (old new : List Token) → IfSome found (λ x. length new < length old) → IfSome (option_map f found) (λ y. length new < length old)
+map_shorter : {X Y : Type 0} (f : X → Y) (found : Option X) (old new : List Token) → IfSome found (λ x. length new < length old) → IfSome (option_map f found) (λ y. length new < length old)
 map_shorter f None old new less = tt
 map_shorter f (Some x) old new less = less
 
@@ -372,3 +374,297 @@ so_far_ends form nests old here new front now before over is =
 pub so_far_none : {X : Type 0} (form : Data → Option X) (first nests : ℕ) (old here seen mid new : List Token) (front : List X) → first ≤ nests → ReadSoFar form nests old front here → after_end_array here ≡ None → seen ≡ here → IsRead form first seen None mid → AreRead (each_of form) nests old None new
 so_far_none form first nests old here seen mid new front less before going still read =
     before.whole None new (item_none (each_of form) form (λ y given. option_map (λ xs. y ∷ xs) (each_of form given)) (λ given behind. refl) nests here mid new going (deeper form first nests here mid None less (subst (λ ts. IsRead form first ts None mid) still read)))
+
+-- ---- a few words and numbers
+
+before_push : (vs : List Value) (v : Value) (rest : Items) → items_before vs (item (view v) rest) ≡ items_before (vs ++ v ∷ []) rest
+before_push [] v rest = refl
+before_push (w ∷ vs) v rest = ap (item (view w)) (before_push vs v rest)
+
+before_none : (vs : List Value) → items_before vs no_items ≡ items_view vs
+before_none [] = refl
+before_none (v ∷ vs) = ap (item (view v)) (before_none vs)
+
+few_step : (most : ℕ) (given : Data) (rest : Items) → few_in (suc most) (item given rest) ≡ option_and_then (λ d. option_map (item d) (few_in most rest)) (atom_of given)
+few_step most given rest = both (is_atom given) (is_few most rest)
+  where
+    both : (a b : Bool) → (if a && b then Some (item given rest) else None) ≡ option_and_then (λ d. option_map (item d) (if b then Some rest else None)) (if a then Some given else None)
+    both true true = refl
+    both true false = refl
+    both false b = refl
+
+pub few_more : (nests most was left : ℕ) (old here seen mid : List Token) (front now : List Value) (v : Value) → was ≡ suc left → FewSoFar most nests old front was here → seen ≡ here → IsRead atom_of nests seen (Some (view v)) mid → now ≡ front ++ v ∷ [] → FewSoFar most nests old now left mid
+few_more nests most was left old here seen mid front now v one before still read more = record {
+  whole = λ found new rest.
+      subst (λ o. AreRead (few_in most) nests old o new) (same found)
+      ((subst (λ n. FewSoFar most nests old front n here) one before).whole (option_map (item (view v)) found) new
+      (head_then (few_in (suc left)) atom_of (λ d given. option_map (item d) (few_in left given)) (few_step left) nests nests here mid new (view v) (option_map (item (view v)) found) (omega arith) (subst (λ ts. IsRead atom_of nests ts (Some (view v)) mid) still read)
+      (are_read_map (item (view v)) (few_in left) nests mid new found rest)));
+}
+  where
+    same : (o : Option Items) → option_map (items_before front) (option_map (item (view v)) o) ≡ option_map (items_before now) o
+    same None = refl
+    same (Some rest) = ap Some (before_push front v rest ∙ ap (λ vs. items_before vs rest) (sym more))
+
+pub few_begins : (most nests left : ℕ) (old : List Token) (front : List Value) → front ≡ [] → left ≡ most → FewSoFar most nests old front left old
+few_begins most nests left old front empty all = record { whole = λ found new rest. subst (λ o. AreRead (few_in most) nests old o new) (same found) (subst (λ n. AreRead (few_in n) nests old found new) all rest) }
+  where
+    same : (o : Option Items) → o ≡ option_map (items_before front) o
+    same None = refl
+    same (Some rest) = ap (λ vs. Some (items_before vs rest)) (sym empty)
+
+pub few_ends : (most nests left : ℕ) (old here new : List Token) (front : List Value) → FewSoFar most nests old front left here → after_end_array here ≡ Some new → AreRead (few_in most) nests old (Some (items_view front)) new
+few_ends most nests left old here new front before over =
+    subst (λ given. AreRead (few_in most) nests old (Some given) new) (before_none front) (before.whole (Some no_items) new (end_then (few_in left) nests here new (Some no_items) over (none_few left)))
+  where
+    none_few : (n : ℕ) → few_in n no_items ≡ Some no_items
+    none_few zero = refl
+    none_few (suc n) = refl
+
+pub few_none : (nests most was left : ℕ) (old here seen mid new : List Token) (front : List Value) → was ≡ suc left → FewSoFar most nests old front was here → after_end_array here ≡ None → seen ≡ here → IsRead atom_of nests seen None mid → AreRead (few_in most) nests old None new
+few_none nests most was left old here seen mid new front one before going still read =
+    (subst (λ n. FewSoFar most nests old front n here) one before).whole None new (item_none (few_in (suc left)) atom_of (λ d given. option_map (item d) (few_in left given)) (few_step left) nests here mid new going (subst (λ ts. IsRead atom_of nests ts None mid) still read))
+
+-- no room is left, and no end stands there
+pub few_full : (most nests left : ℕ) (old here new : List Token) (front : List Value) → left ≡ 0 → FewSoFar most nests old front left here → after_end_array here ≡ None → AreRead (few_in most) nests old None new
+few_full most nests left old here new front none before going = (subst (λ n. FewSoFar most nests old front n here) none before).whole None new (end_none (few_in 0) nests here new going (λ given rest. refl))
+
+-- a form that takes only a few of them
+of_few : {X : Type 0} (form : Items → Option X) (most : ℕ) → TakesFew most form → (o : Option (json.Items × List Token)) → converted (λ js. option_and_then form (of_items js)) o ≡ converted form (converted (λ js. option_and_then (few_in most) (of_items js)) o)
+of_few form most few None = refl
+of_few {X} form most few (Some (js, behind)) = inside (of_items js)
+  where
+    chosen : (given : Items) (b : Bool) → is_few most given ≡ b → option_map {U = X × List Token} (λ x. (x, behind)) (form given) ≡ converted form (option_map (λ x. (x, behind)) (if b then Some given else None))
+    chosen given true is = refl
+    chosen given false is = ap (option_map (λ x. (x, behind))) (few given is)
+
+    inside : (o : Option Items) → option_map {U = X × List Token} (λ x. (x, behind)) (option_and_then form o) ≡ converted form (option_map (λ x. (x, behind)) (option_and_then (few_in most) o))
+    inside None = refl
+    inside (Some given) = chosen given (is_few most given) refl
+
+formed : {X : Type 0} (form : Items → Option X) (told : Option (Items × List Token)) (given : Items) (new : List Token) → told ≡ Some (given, new) → IsFoundAs (converted form told) (form given) new
+formed form told given new is = found_at _ (form given) new (ap (converted form) is)
+
+if_shorter : {X : Type 0} (found : Option X) (old new : List Token) → length new < length old → IfSome found (λ x. length new < length old)
+if_shorter None old new less = tt
+if_shorter (Some x) old new less = less
+
+pub few_then : {X : Type 0} (form : Items → Option X) (most nests : ℕ) (old new : List Token) (given : Items) (found : Option X) → TakesFew most form → AreRead (few_in most) nests old (Some given) new → found ≡ form given → AreRead form nests old found new
+few_then form most nests old new given found few read is =
+    subst (λ o. AreRead form nests old o new) (sym is)
+    (record {
+      is = λ depth turns deep enough. same_found _ _ (form given) new (of_few form most few (items (value depth) turns old)) (formed form (rest_as (few_in most) depth turns old) given new (read.is depth turns deep enough));
+      shorter = if_shorter (form given) old new read.shorter;
+    })
+
+pub few_not : {X : Type 0} (form : Items → Option X) (most nests : ℕ) (old new : List Token) → TakesFew most form → AreRead (few_in most) nests old None new → AreRead form nests old None new
+few_not form most nests old new few read =
+    record { is = λ depth turns deep enough. of_few form most few (items (value depth) turns old) ∙ ap (converted form) (read.is depth turns deep enough); shorter = tt }
+
+-- what holds of an answer
+pub ok_then : {X E : Type 0} {P Q : X → Type 0} (r : Result X E) → ((x : X) → P x → Q x) → IfOk r P → IfOk r Q
+ok_then (Ok x) more is = more x is
+ok_then (Err e) more is = tt
+
+-- ---- arrays of a few words and numbers
+
+chosen : {X : Type 0} (form : Items → Option X) (most : ℕ) (behind : List Token) (given : Items) (b : Bool) → TakesFew most form → is_few most given ≡ b
+    → option_map {U = X × List Token} (λ x. (x, behind)) (form given) ≡ converted form (option_map (λ x. (x, behind)) (if b then Some given else None))
+chosen form most behind given true few is = refl
+chosen form most behind given false few is = ap (option_map (λ x. (x, behind))) (few given is)
+
+of_few_data : {X : Type 0} (form : Items → Option X) (most : ℕ) (behind : List Token) → TakesFew most form → (o : Option Data)
+    → option_map {U = X × List Token} (λ x. (x, behind)) (option_and_then (array_of form) o) ≡ converted form (option_map (λ x. (x, behind)) (option_and_then (array_of (few_in most)) o))
+of_few_data form most behind few None = refl
+of_few_data form most behind few (Some null) = refl
+of_few_data form most behind few (Some (boolean b)) = refl
+of_few_data form most behind few (Some (number n)) = refl
+of_few_data form most behind few (Some (string s)) = refl
+of_few_data form most behind few (Some (array given)) = chosen form most behind given (is_few most given) few refl
+of_few_data form most behind few (Some (object ms)) = refl
+
+of_few_array : {X : Type 0} (form : Items → Option X) (most : ℕ) → TakesFew most form → (o : Option (json.Json × List Token))
+    → converted (λ j. option_and_then (array_of form) (of_json j)) o ≡ converted form (converted (λ j. option_and_then (array_of (few_in most)) (of_json j)) o)
+of_few_array form most few None = refl
+of_few_array form most few (Some (j, behind)) = of_few_data form most behind few (of_json j)
+
+pub few_array_then : {X : Type 0} (form : Items → Option X) (most nests : ℕ) (old new : List Token) (given : Items) (found : Option X) → TakesFew most form → IsRead (array_of (few_in most)) nests old (Some given) new → found ≡ form given → IsRead (array_of form) nests old found new
+few_array_then form most nests old new given found few read is =
+    subst (λ o. IsRead (array_of form) nests old o new) (sym is)
+    (record {
+      is = λ depth deep. same_found _ _ (form given) new (of_few_array form most few (value depth old)) (formed form (read_as (array_of (few_in most)) depth old) given new (read.is depth deep));
+      shorter = if_shorter (form given) old new read.shorter;
+    })
+
+pub few_array_not : {X : Type 0} (form : Items → Option X) (most nests : ℕ) (old new : List Token) → TakesFew most form → IsRead (array_of (few_in most)) nests old None new → IsRead (array_of form) nests old None new
+few_array_not form most nests old new few read =
+    record { is = λ depth deep. of_few_array form most few (value depth old) ∙ ap (converted form) (read.is depth deep); shorter = tt }
+
+-- ---- forms that say the same
+
+same_on_items : {X : Type 0} (form other : Items → Option X) → ((given : Items) → form given ≡ other given) → (o : Option Items) → option_and_then form o ≡ option_and_then other o
+same_on_items form other same None = refl
+same_on_items form other same (Some given) = same given
+
+pub same_form : {X : Type 0} (form other : Items → Option X) (nests : ℕ) (old new : List Token) (found : Option X) → ((given : Items) → form given ≡ other given) → AreRead other nests old found new → AreRead form nests old found new
+same_form form other nests old new found same read = record {
+  is = λ depth turns deep enough.
+      same_found _ _ found new (same_converted (λ js. option_and_then form (of_items js)) (λ js. option_and_then other (of_items js)) (items (value depth) turns old) (λ js. same_on_items form other same (of_items js))) (read.is depth turns deep enough);
+  shorter = read.shorter;
+}
+
+-- ---- other forms of one value
+
+map_data : {X Y : Type 0} (f : X → Y) (form : Data → Option X) (o : Option Data) → option_and_then (λ given. option_map f (form given)) o ≡ option_map f (option_and_then form o)
+map_data f form None = refl
+map_data f form (Some given) = refl
+
+pub is_read_map : {X Y : Type 0} (f : X → Y) (form : Data → Option X) (nests : ℕ) (old new : List Token) (found : Option X) → IsRead form nests old found new → IsRead (λ given. option_map f (form given)) nests old (option_map f found) new
+is_read_map f form nests old new found read = record {
+  is = λ depth deep.
+      same_found _ _ (option_map f found) new
+      (same_converted (λ j. option_and_then (λ given. option_map f (form given)) (of_json j)) (λ j. option_map f (option_and_then form (of_json j))) (value depth old) (λ j. map_data f form (of_json j))
+      ∙ converted_map f (λ j. option_and_then form (of_json j)) (value depth old))
+      (map_found f (read_as form depth old) found new (read.is depth deep));
+  shorter = map_shorter f found old new read.shorter;
+}
+
+form_of_array : {X : Type 0} (form : Data → Option X) (inner : Items → Option X) → ((given : Items) → form (array given) ≡ inner given) → (o : Option (json.Items × List Token))
+    → converted (λ j. option_and_then form (of_json j)) (parse_map json.array o) ≡ converted (λ js. option_and_then inner (of_items js)) o
+form_of_array form inner same None = refl
+form_of_array form inner same (Some (js, behind)) = ap (option_map (λ x. (x, behind))) (inside (of_items js))
+  where
+    inside : (o : Option Items) → option_and_then form (option_map array o) ≡ option_and_then inner o
+    inside None = refl
+    inside (Some given) = same given
+
+-- a form that is one of items at an array
+pub at_array : {X : Type 0} (form : Data → Option X) (inner : Items → Option X) (nests : ℕ) (old mid new : List Token) (found : Option X) → ((given : Items) → form (array given) ≡ inner given) → opens_array old ≡ Some mid → AreRead inner nests mid found new → IsRead form (suc nests) old found new
+at_array {X} form inner nests old mid new found same opens rest = record { is = at; shorter = shorter found rest.shorter }
+  where
+    at : (depth : ℕ) → suc nests ≤ depth → IsFoundAs (read_as form depth old) found new
+    at zero deep = absurd (omega arith)
+    at (suc depth) deep =
+        same_found _ _ found new
+        (ap (read_as form (suc depth)) (opened old mid opens) ∙ ap (converted (λ j. option_and_then form (of_json j))) (value_is (suc depth) (Token.begin_array ∷ mid)) ∙ form_of_array form inner same (items (value depth) (length mid) mid))
+        (rest.is depth (length mid) (omega arith) (omega arith))
+
+    shorter : (o : Option X) → IfSome o (λ x. length new < length mid) → IfSome o (λ x. length new < length old)
+    shorter None h = tt
+    shorter (Some x) h = omega (arith, ap length (opened old mid opens))
+
+-- and at a token that opens none by itself
+module _ {X : Type 0} (form : Data → Option X) (flat : (given : Members) → form (object given) ≡ None) where
+  plain_with : (a : Parse json.Items) (o : Parse json.Members) (t : Token) (new : List Token) → opens_array (t ∷ new) ≡ None → converted (λ j. option_and_then form (of_json j)) (value_with a o (t ∷ new)) ≡ option_map (λ x. (x, new)) (option_and_then form (data_at t))
+  plain_with a o Token.begin_object new e = told_object form flat (o new)
+  plain_with a o Token.end_object new e = refl
+  plain_with a o Token.begin_array new e = absurd (let no : ⊥ = cc in no)
+  plain_with a o Token.end_array new e = refl
+  plain_with a o (Token.key s) new e = refl
+  plain_with a o (Token.string s) new e = refl
+  plain_with a o (Token.number s) new e = refl
+  plain_with a o (Token.boolean b) new e = refl
+  plain_with a o Token.null new e = refl
+  plain_with a o Token.bad new e = refl
+
+  plain_value : (depth : ℕ) (t : Token) (new : List Token) → opens_array (t ∷ new) ≡ None → read_as form depth (t ∷ new) ≡ option_map (λ x. (x, new)) (option_and_then form (data_at t))
+  unfolding value
+  plain_value zero t new e = plain_with (λ ts. None) (λ ts. None) t new e
+  plain_value (suc depth) t new e = plain_with (λ ts. items (value depth) (length ts) ts) (λ ts. members (value depth) (length ts) ts) t new e
+
+  pub plain_token_read : (nests : ℕ) (t : Token) (old new : List Token) (found : Option X) → old ≡ t ∷ new → opens_array old ≡ None → found ≡ option_and_then form (data_at t) → IsRead form nests old found new
+  plain_token_read nests t old new found is plain same = record {
+    is = λ depth deep. found_at _ found new (ap (read_as form depth) is ∙ plain_value depth t new (ap opens_array (sym is) ∙ plain) ∙ ap (option_map (λ x. (x, new))) (sym same));
+    shorter = shorter_by_one found t old new is;
+  }
+
+-- the values of a few
+pub few_given : (found : Option (Vec Value Global)) (values : Vec Value Global) → found ≡ Some values → option_map (λ v. items_view v.items) found ≡ Some (items_view values.items)
+few_given found values is = ap (option_map (λ v. items_view v.items)) is
+
+pub few_missing : (found : Option (Vec Value Global)) → found ≡ None → option_map (λ v. items_view v.items) found ≡ None
+few_missing found is = ap (option_map (λ v. items_view v.items)) is
+
+-- ---- one item, two or three, and the end behind them
+
+once : {A X : Type 0} (make : A → X) (o : Option A) → option_map make o ≡ option_and_then (λ a. Some (make a)) o
+once make None = refl
+once make (Some a) = refl
+
+never : {A X : Type 0} (o : Option A) → None ≡ option_and_then {U = X} (λ a. None) o
+never None = refl
+never (Some a) = refl
+
+pub one_less : {A X : Type 0} (make : A → X) (f : Data → Option A) (given : Data) (rest : Items) → one_item make f (item given rest) ≡ option_and_then (λ a. alone (make a) rest) (f given)
+one_less make f given no_items = once make (f given)
+one_less make f given (item other rest) = never (f given)
+
+both_less : {A B X : Type 0} (make : A → B → X) (a : Option A) (b : Option B) → with_both make a b ≡ option_and_then (λ x. option_map (make x) b) a
+both_less make None None = refl
+both_less make None (Some b) = refl
+both_less make (Some a) None = refl
+both_less make (Some a) (Some b) = refl
+
+pub two_less : {A B X : Type 0} (make : A → B → X) (f : Data → Option A) (g : Data → Option B) (given : Data) (rest : Items) → two_items make f g (item given rest) ≡ option_and_then (λ a. one_item (make a) g rest) (f given)
+two_less make f g given no_items = never (f given)
+two_less make f g given (item b no_items) = both_less make (f given) (g b)
+two_less make f g given (item b (item c rest)) = never (f given)
+
+three_less : {A B C X : Type 0} (make : A → B → C → X) (a : Option A) (b : Option B) (c : Option C) → with_three make a b c ≡ option_and_then (λ x. with_both (make x) b c) a
+three_less make None b c = refl
+three_less make (Some a) None c = refl
+three_less make (Some a) (Some b) None = refl
+three_less make (Some a) (Some b) (Some c) = refl
+
+pub each_less : {A B C X : Type 0} (make : A → B → C → X) (f : Data → Option A) (g : Data → Option B) (h : Data → Option C) (given : Data) (rest : Items)
+    → three_items make f g h (item given rest) ≡ option_and_then (λ a. two_items (make a) g h rest) (f given)
+each_less make f g h given no_items = never (f given)
+each_less make f g h given (item b no_items) = never (f given)
+each_less make f g h given (item b (item c no_items)) = three_less make (f given) (g b) (h c)
+each_less make f g h given (item b (item c (item d rest))) = never (f given)
+
+pub one_none : {A X : Type 0} (make : A → X) (f : Data → Option A) (nests : ℕ) (old mid new : List Token) → IsRead f nests old None mid → AreRead (one_item make f) nests old None new
+one_none make f nests old mid new read = head_none (one_item make f) f (λ a. alone (make a)) (one_less make f) refl nests old mid new read
+
+pub one_ends : {A X : Type 0} (make : A → X) (f : Data → Option A) (nests : ℕ) (old mid new : List Token) (a : A) (x : X) → IsRead f nests old (Some a) mid → after_end_array mid ≡ Some new → x ≡ make a → AreRead (one_item make f) nests old (Some x) new
+one_ends make f nests old mid new a x read over is =
+    head_then (one_item make f) f (λ b. alone (make b)) (one_less make f) nests nests old mid new a (Some x) (omega arith) read (end_then (alone (make a)) nests mid new (Some x) over (ap Some (sym is)))
+
+pub one_goes_on : {A X : Type 0} (make : A → X) (f : Data → Option A) (nests : ℕ) (old mid new : List Token) (a : A) → IsRead f nests old (Some a) mid → after_end_array mid ≡ None → AreRead (one_item make f) nests old None new
+one_goes_on make f nests old mid new a read going =
+    head_then (one_item make f) f (λ b. alone (make b)) (one_less make f) nests nests old mid new a None (omega arith) read (end_none (alone (make a)) nests mid new going (λ given rest. refl))
+
+pub two_none : {A B X : Type 0} (make : A → B → X) (f : Data → Option A) (g : Data → Option B) (first nests : ℕ) (old mid new : List Token) → first ≤ nests → IsRead f first old None mid → AreRead (two_items make f g) nests old None new
+two_none make f g first nests old mid new less read =
+    head_none (two_items make f g) f (λ a. one_item (make a) g) (two_less make f g) refl nests old mid new (deeper f first nests old mid None less read)
+
+pub two_then : {A B X : Type 0} (make : A → B → X) (f : Data → Option A) (g : Data → Option B) (first nests : ℕ) (old mid new : List Token) (a : A) (found : Option X) → first ≤ nests → IsRead f first old (Some a) mid → AreRead (one_item (make a) g) nests mid found new → AreRead (two_items make f g) nests old found new
+two_then make f g first nests old mid new a found less read rest = head_then (two_items make f g) f (λ b. one_item (make b) g) (two_less make f g) first nests old mid new a found less read rest
+
+pub three_none : {A B C X : Type 0} (make : A → B → C → X) (f : Data → Option A) (g : Data → Option B) (h : Data → Option C) (first nests : ℕ) (old mid new : List Token) → first ≤ nests → IsRead f first old None mid → AreRead (three_items make f g h) nests old None new
+three_none make f g h first nests old mid new less read =
+    head_none (three_items make f g h) f (λ a. two_items (make a) g h) (each_less make f g h) refl nests old mid new (deeper f first nests old mid None less read)
+
+pub three_then : {A B C X : Type 0} (make : A → B → C → X) (f : Data → Option A) (g : Data → Option B) (h : Data → Option C) (first nests : ℕ) (old mid new : List Token) (a : A) (found : Option X) → first ≤ nests → IsRead f first old (Some a) mid
+    → AreRead (two_items (make a) g h) nests mid found new → AreRead (three_items make f g h) nests old found new
+three_then make f g h first nests old mid new a found less read rest = head_then (three_items make f g h) f (λ b. two_items (make b) g h) (each_less make f g h) first nests old mid new a found less read rest
+
+-- an array whose first item is this one is as the items behind it
+pub told_at_name : {A X : Type 0} (form : Items → Option X) (head : Data → Option A) (next : A → Items → Option X) → ((given : Data) (rest : Items) → form (item given rest) ≡ option_and_then (λ a. next a rest) (head given))
+    → (depth : ℕ) (old mid here : List Token) (a : A) → opens_array old ≡ Some mid → IsRead head 0 mid (Some a) here → (turns : ℕ) × (length here ≤ turns) × (read_as (array_of form) (suc depth) old ≡ rest_as (next a) depth turns here)
+told_at_name {A} {X} form head next law depth old mid here a opens read = with_turns (length mid) refl
+  where
+    all : read_as (array_of form) (suc depth) old ≡ rest_as form depth (length mid) mid
+    all = ap (read_as (array_of form) (suc depth)) (opened old mid opens) ∙ ap (converted (λ j. option_and_then (array_of form) (of_json j))) (value_is (suc depth) (Token.begin_array ∷ mid)) ∙ array_form form (items (value depth) (length mid) mid)
+
+    first : read_as head depth mid ≡ Some (a, here)
+    first = read.is depth (omega arith)
+
+    with_turns : (n : ℕ) → length mid ≡ n → (turns : ℕ) × (length here ≤ turns) × (read_as (array_of form) (suc depth) old ≡ rest_as (next a) depth turns here)
+    with_turns zero is = absurd (omega (arith, read.shorter))
+    with_turns (suc n) is = (
+      n,
+      omega (arith, read.shorter),
+      all ∙ ap (λ k. rest_as form depth k mid) is ∙ one_turn form head next law depth n mid (going_on form head next law depth mid (a, here) (after_end_array mid) refl first)
+          ∙ ap (option_and_then (λ (p : A × List Token). rest_as (next p.0) depth n p.1)) first,
+    )

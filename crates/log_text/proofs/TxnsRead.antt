@@ -17,8 +17,7 @@ use Rattle.log_text.specs.Kept.{most_of, with_one_more, kept, made, behind_in, b
 use Rattle.log_text.specs.Streams.{IsRead, AreRead, ReadSoFar, opens_array, data_at}
 use Rattle.log_text.specs.declared.fragments.Behind.{Behind}
 use Rattle.log_text.specs.declared.fragments.Behind.TheVariants.{First, Txns}
-use Rattle.log_text.proofs.TokensRead.{head_none, head_then, end_then, end_none, are_read, are_read_map, so_far_begins, so_far_more, so_far_ends, so_far_none, deeper, deeper_items}
-use Rattle.log_text.proofs.ItemsRead.{same_form}
+use Rattle.log_text.proofs.TokensRead.{head_none, head_then, end_then, end_none, are_read, are_read_map, so_far_begins, so_far_more, so_far_ends, so_far_none, deeper, deeper_items, same_form}
 
 -- ---- one transaction
 

@@ -10,7 +10,6 @@ pub mod SaidOnce
 pub mod ScriptReplies
 pub mod SplitFaults
 pub mod SplitReplies
-pub mod SplitOwed
 pub mod Standing
 pub mod Stopping
 pub mod Tallies

@@ -6,7 +6,6 @@ pub mod Dropped
 pub mod Firsts
 pub mod FoundPaths
 pub mod Kept
-pub mod Limited
 pub mod LineLists
 pub mod Marked
 pub mod Next

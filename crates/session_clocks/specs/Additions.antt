@@ -3,8 +3,8 @@ use Rattle.std.specs.Prelude.{◌≡◌, ◌⊎◌, ℕ, List, [], ◌∷◌, �
 use Rattle.txn.specs.declared.transactions.TxnId.{TxnId}
 use Rattle.txn.specs.declared.choices.Arc.{Arc}
 use Rattle.txn.specs.Arcs.{start_of, end_of}
-use Rattle.session_clocks.specs.declared.graph.additions.Addition.{Addition}
-use Rattle.session_clocks.specs.declared.graph.additions.Addition.TheVariants.{Added, Cycle}
+use Rattle.session_clocks.specs.declared.graph.Addition.{Addition}
+use Rattle.session_clocks.specs.declared.graph.Addition.TheVariants.{Added, Cycle}
 use Rattle.session_clocks.specs.Reach.{Reaches, IsOrReaches}
 
 -- whether the arc's end was its start, or reached it before

@@ -2,7 +2,6 @@ pub mod Additions
 pub mod Clocks
 pub mod Drops
 pub mod Graphs
-pub mod Limits
 pub mod Lines
 pub mod Marks
 pub mod Nodes

@@ -4,7 +4,6 @@
 
 mod drops;
 mod graph;
-mod limits;
 mod lines;
 mod near;
 mod nodes;

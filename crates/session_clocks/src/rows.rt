@@ -8,15 +8,16 @@ use txn::{NoMemory, TxnId};
 /// In the row of a transaction, of a session that it doesn't reach.
 pub(crate) const NONE: u64 = u64::MAX;
 
-/// Lowers the numbers from a place on to those of a row. Each is written, since a branch that leaves some out costs more.
+/// Lowers the numbers from a place on to those of a row.
 pub(crate) fn lower(numbers: &mut [u64], at: usize, row: &[u64])
     requires { at + length row.now ≤ length numbers.old }
     ensures joined { (k : ℕ) → k < length row.now → IsLesser (slice_index numbers.old (at + k)) (slice_index row.now k) (slice_index numbers.new (at + k)) }
     ensures others { (j : ℕ) → (j < at) ⊎ (at + length row.now ≤ j) → slice_index numbers.new j ≡ slice_index numbers.old j }
 {
     for (k, number) in row.iter().enumerate() {
-        let old = numbers[at + k];
-        numbers[at + k] = if *number < old { *number } else { old };
+        if *number < numbers[at + k] {
+            numbers[at + k] = *number;
+        }
     }
 }
 
@@ -27,8 +28,9 @@ pub(crate) fn raise(numbers: &mut [u64], at: usize, row: &[u64])
     ensures others { (j : ℕ) → (j < at) ⊎ (at + length row.now ≤ j) → slice_index numbers.new j ≡ slice_index numbers.old j }
 {
     for (k, number) in row.iter().enumerate() {
-        let old = numbers[at + k];
-        numbers[at + k] = if old < *number { *number } else { old };
+        if numbers[at + k] < *number {
+            numbers[at + k] = *number;
+        }
     }
 }
 

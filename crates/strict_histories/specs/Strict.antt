@@ -1,4 +1,4 @@
--- Strict serializability of whole histories (Papadimitriou 1979): an order explains the history, and a transaction that
+-- Strict serializability of whole histories (Herlihy and Wing 1990): an order explains the history, and a transaction that
 -- ended before another one began comes before it there.
 use Rattle.std.specs.Prelude.{◌≡◌, ℕ, ◌<◌, List, slice_get, Option, Some, map}
 use Rattle.list_lemmas.specs.Precedes.{Precedes}

@@ -2,7 +2,7 @@ use Rattle.std.proofs.Common.{◌<◌, ℕ, List, refl, subst}
 use Rattle.std.proofs.lemmas.Bool.{leb-true, le-leb}
 use Rattle.txn.specs.declared.transactions.TxnId.{TxnId}
 use Rattle.session_clocks.specs.Reach.{Reaches}
-use Rattle.key_index.specs.Runs.{IsFirstThird, IsThird}
+use Rattle.clock_choices.specs.Runs.{IsFirstThird, IsThird}
 use Rattle.clock_choices.proofs.LinkedAmong.{all_before, first_behind, others_behind}
 use Rattle.clock_choices.proofs.among.is_linked_with_run.Goals as goal
 

@@ -1,16 +1,15 @@
-use Rattle.std.proofs.Common.{◌≡◌, ◌∙◌, ◌∷◌, ◌++◌, List, [], ap, subst, All}
+use Rattle.std.proofs.Common.{◌≡◌, ◌∙◌, ◌∷◌, ◌++◌, [], List, ap, subst, All}
 use Rattle.txn.specs.declared.transactions.TxnId.{TxnId}
 use Rattle.txn.specs.declared.choices.Arc.{Arc}
 use Rattle.txn.specs.declared.choices.Arc.TheVariants.{Taken}
 use Rattle.session_clocks.specs.Reach.{IsThere, Reaches}
-use Rattle.key_index.specs.declared.reads.Read.{Read}
-use Rattle.key_index.specs.Index.{reads_of, runs_of}
+use Rattle.clock_choices.specs.declared.reads.Read.{Read}
 use Rattle.clock_choices.specs.BranchState.{arc_of}
 use Rattle.clock_choices.specs.Closed.{IsClosed}
 use Rattle.clock_choices.specs.Extending.{Extends}
 use Rattle.clock_choices.specs.Forcing.{ForcesOver}
 use Rattle.clock_choices.specs.Held.{IsHeldFrom}
-use Rattle.clock_choices.specs.RunsThere.{IsRunThere}
+use Rattle.clock_choices.specs.Index.{IsRunThere, reads_of, runs_of}
 use Rattle.clock_choices.specs.Steps.{sides_behind}
 use Rattle.clock_choices.proofs.Extending.{extends_both, on_new, on_old}
 use Rattle.clock_choices.proofs.Growths.{growth_told}

@@ -1,5 +1,5 @@
 use Rattle.std.proofs.Common.{get_or}
-use Rattle.key_index.specs.declared.reads.Read.{Read}
+use Rattle.clock_choices.specs.declared.reads.Read.{Read}
 use Rattle.clock_choices.proofs.Extending.{extends_both, extends_none}
 use Rattle.clock_choices.proofs.by_sources.add_reads.Goals as goal
 

@@ -1,8 +1,8 @@
 use Rattle.std.proofs.Common.{ℕ, [], All}
 use Rattle.order_check.specs.declared.remainder.Parts.{Parts}
 use Rattle.order_check.specs.Cycles.{IsArc}
-use Rattle.key_index.specs.Index.{AreRunsOf, IsRead, runs_of}
 use Rattle.clock_choices.specs.Extending.{Extends}
+use Rattle.clock_choices.specs.Index.{AreRunsOf, IsRead, runs_of}
 use Rattle.clock_choices.proofs.by_sources.add_reads.Given as goal
 
 abbrev pub invariant-loop-read : goal.invariant-loop-read

@@ -1,8 +1,8 @@
 use Rattle.std.proofs.Common.{◌≡◌, ◌∙◌, ◌++◌, ℕ, List, length, length-append, length-drop, length-take, drop, take, ap, subst, arith, All}
-use Rattle.std.proofs.lemmas.List.{take_all}
 use Rattle.std.proofs.lemmas.List.Elements.{All-contains, All-more, All-nil, All-weaker}
 use Rattle.txn.specs.declared.transactions.TxnId.{TxnId}
 use Rattle.session_clocks.specs.Graphs.{HasNode}
+use Rattle.clock_choices.proofs.Settled.{take_all}
 use Rattle.clock_choices.proofs.UpTo.{there_stays, up_to_none, whole_graph}
 use Rattle.clock_choices.proofs.by_sources.graph_by_sources.Goals as goal
 
@@ -46,5 +46,5 @@ returns c =
     let was = c.loop-id.invariant in
     let ids = c.args.ids.now in
     let graph = c.loop-id.graph in
-    let all = subst (λ (some : List TxnId). All (HasNode graph) some) (take_all c.loop-id.id-index ids c.loop-id-test.false) was.there in
+    let all = subst (λ (some : List TxnId). All (HasNode graph) some) (take_all ids c.loop-id.id-index c.loop-id-test.false) was.there in
     whole_graph c.args.parts.now graph was.up (λ id remains. All-contains (HasNode graph) ids id all ((c.requires.ids id).1 remains))

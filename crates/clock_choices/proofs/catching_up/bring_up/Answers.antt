@@ -1,14 +1,13 @@
 use Rattle.std.proofs.Common.{ℕ, ◌++◌, List, [], get_or, map, sym, subst, All, Contains}
 use Rattle.txn.specs.declared.transactions.TxnId.{TxnId}
 use Rattle.session_clocks.specs.Reach.{IsThere}
-use Rattle.key_index.specs.declared.reads.Read.{Read}
-use Rattle.key_index.specs.Index.{reads_of, runs_of}
+use Rattle.clock_choices.specs.declared.reads.Read.{Read}
 use Rattle.clock_choices.specs.declared.steps.Forced.{Forced}
 use Rattle.clock_choices.specs.Extending.{reached_in}
 use Rattle.clock_choices.specs.Forcing.{Forces}
 use Rattle.clock_choices.specs.Growth.{IsNotedFor}
 use Rattle.clock_choices.specs.Held.{IsHeld}
-use Rattle.clock_choices.specs.RunsThere.{IsRunThere}
+use Rattle.clock_choices.specs.Index.{IsRunThere, reads_of, runs_of}
 use Rattle.clock_choices.specs.Linking.{AreNodesOf, IsTxnLinked}
 use Rattle.clock_choices.specs.Pending.{IsClosedBut}
 use Rattle.clock_choices.specs.SaturatedState.{AreNewBehind}

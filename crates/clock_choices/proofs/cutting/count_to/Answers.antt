@@ -2,7 +2,7 @@ use Rattle.std.proofs.Common.{arith}
 use Rattle.txn.specs.declared.choices.Arc.{Arc}
 use Rattle.txn.specs.declared.choices.Arc.TheVariants.{Session}
 use Rattle.session_clocks.specs.Drops.{arc_stays}
-use Rattle.clock_choices.proofs.LeftCounts.{count_within, counted_more_if}
+use Rattle.clock_choices.proofs.LeftSteps.{count_within, counted_more_if}
 use Rattle.clock_choices.proofs.cutting.count_to.Goals as goal
 
 abbrev none : Arc

@@ -1,8 +1,8 @@
 use Rattle.std.proofs.Common.{◌∙◌, List, ap}
-use Rattle.std.proofs.lemmas.List.{take_all}
 use Rattle.clock_choices.specs.declared.steps.Forced.{Forced}
 use Rattle.clock_choices.specs.LeftSteps.{steps_left}
-use Rattle.clock_choices.proofs.LeftCounts.{steps_left_push}
+use Rattle.clock_choices.proofs.LeftSteps.{steps_left_push}
+use Rattle.clock_choices.proofs.Settled.{take_all}
 use Rattle.clock_choices.proofs.cutting.left_steps.Goals as goal
 
 pub loop-step-preserved : goal.loop-step-preserved
@@ -19,4 +19,4 @@ loop-step-preserved c =
     }
 
 pub returns : goal.returns
-returns c = c.loop-step.invariant.found ∙ ap (λ (steps : List Forced). steps_left c.args.parts.now c.args.left.now c.args.arcs.now steps) (take_all c.loop-step.step-index c.args.steps.now c.loop-step-test.false)
+returns c = c.loop-step.invariant.found ∙ ap (λ (steps : List Forced). steps_left c.args.parts.now c.args.left.now c.args.arcs.now steps) (take_all c.args.steps.now c.loop-step.step-index c.loop-step-test.false)

@@ -1,9 +1,9 @@
 use Rattle.std.proofs.Common.{take}
 use Rattle.order_check.specs.declared.remainder.Parts.{Parts}
 use Rattle.order_check.specs.Known.{WritesKey}
-use Rattle.key_index.specs.Adds.{Among}
-use Rattle.key_index.specs.Index.{AreRunsOf, IsRead}
+use Rattle.clock_choices.specs.Adds.{Among}
 use Rattle.clock_choices.specs.Extending.{reached_in}
+use Rattle.clock_choices.specs.Index.{AreRunsOf, IsRead}
 use Rattle.clock_choices.specs.Opens.{IsOfRun, NoneOpen}
 use Rattle.clock_choices.proofs.first_open.first_of_read.Given as goal
 

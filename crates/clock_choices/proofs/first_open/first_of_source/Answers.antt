@@ -6,13 +6,13 @@ use Rattle.txn.specs.declared.transactions.Source.{Source}
 use Rattle.txn.specs.declared.transactions.Source.TheVariants.{By}
 use Rattle.txn.specs.declared.choices.Choice.{Choice}
 use Rattle.order_check.specs.Known.{ReadsKey, WritesKey}
-use Rattle.key_index.specs.declared.reads.Read.{Read}
-use Rattle.key_index.specs.declared.runs.Run.{Run}
-use Rattle.key_index.specs.Index.{runs_of}
-use Rattle.key_index.specs.Runs.{Climbs}
-use Rattle.key_index.specs.Writers.{IsRun}
+use Rattle.clock_choices.specs.declared.reads.Read.{Read}
+use Rattle.clock_choices.specs.declared.runs.Run.{Run}
 use Rattle.clock_choices.specs.Extending.{reached_in}
+use Rattle.clock_choices.specs.Index.{runs_of}
 use Rattle.clock_choices.specs.Opens.{IsFirstOf, IsOfSource, NoneOpen, read_of}
+use Rattle.clock_choices.specs.Runs.{Climbs}
+use Rattle.clock_choices.specs.Writers.{IsRun}
 use Rattle.clock_choices.proofs.Links.{index_there}
 use Rattle.clock_choices.proofs.OpenReads.{none_of_init, none_unwritten, source_is}
 use Rattle.clock_choices.proofs.Opens.{found_same}

@@ -1,5 +1,5 @@
 use Rattle.std.proofs.Common.{take}
-use Rattle.key_index.specs.Adds.{Among}
+use Rattle.clock_choices.specs.Adds.{Among}
 use Rattle.clock_choices.specs.Extending.{reached_in}
 use Rattle.clock_choices.specs.Opens.{IsOfSource, NoneOpen}
 use Rattle.clock_choices.proofs.first_open.first_of_txn.Given as goal

@@ -4,7 +4,7 @@ use Rattle.std.proofs.lemmas.List.Elements.{Contains-get_or}
 use Rattle.std.proofs.lemmas.List.{get_or_default, take_all}
 use Rattle.txn.specs.declared.transactions.TxnId.{TxnId}
 use Rattle.txn.specs.declared.choices.Choice.{Choice}
-use Rattle.key_index.specs.Adds.{Among}
+use Rattle.clock_choices.specs.Adds.{Among}
 use Rattle.clock_choices.specs.Extending.{reached_in}
 use Rattle.clock_choices.specs.Opens.{IsOfReader, NoneOpen}
 use Rattle.clock_choices.proofs.OpenReads.{readers_all, readers_apart}

@@ -4,9 +4,8 @@ use Rattle.txn.specs.declared.transactions.Source.{Source}
 use Rattle.txn.specs.declared.transactions.Source.TheVariants.{Init}
 use Rattle.txn.specs.declared.transactions.TxnId.{TxnId}
 use Rattle.session_clocks.specs.Reach.{IsThere}
-use Rattle.key_index.specs.Index.{runs_of}
 use Rattle.clock_choices.specs.Extending.{reached_in}
-use Rattle.clock_choices.specs.RunsThere.{IsRunThere}
+use Rattle.clock_choices.specs.Index.{IsRunThere, runs_of}
 use Rattle.clock_choices.specs.Linking.{IsBaseLinked}
 use Rattle.clock_choices.proofs.Extending.{extends_both, extends_none, on_new}
 use Rattle.clock_choices.proofs.Links.{all_taken, base_linked_stays, brings_more, brings_none}

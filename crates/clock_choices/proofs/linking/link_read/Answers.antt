@@ -3,10 +3,9 @@ use Rattle.std.proofs.lemmas.Bool.{false≢true}
 use Rattle.std.proofs.lemmas.List.Elements.{All-weaker}
 use Rattle.txn.specs.declared.choices.Arc.{Arc}
 use Rattle.txn.specs.declared.choices.Arc.TheVariants.{Read}
-use Rattle.key_index.specs.declared.runs.Run.{Run}
-use Rattle.key_index.specs.Index.{runs_of}
-use Rattle.key_index.specs.Runs.{Climbs}
-use Rattle.clock_choices.specs.RunsThere.{IsRunThere}
+use Rattle.clock_choices.specs.declared.runs.Run.{Run}
+use Rattle.clock_choices.specs.Index.{IsRunThere, runs_of}
+use Rattle.clock_choices.specs.Runs.{Climbs}
 use Rattle.clock_choices.proofs.Growths.{by_last, on_ok_two}
 use Rattle.clock_choices.proofs.Links.{brings_none, brings_one}
 use Rattle.clock_choices.proofs.Settled.{in_runs_there}

@@ -3,7 +3,7 @@ use Rattle.std.proofs.lemmas.List.Elements.{All-nil}
 use Rattle.txn.specs.declared.transactions.TxnId.{TxnId}
 use Rattle.session_clocks.specs.Reach.{IsThere}
 use Rattle.clock_choices.specs.Extending.{reached_in}
-use Rattle.clock_choices.specs.RunsThere.{IsRunThere}
+use Rattle.clock_choices.specs.Index.{IsRunThere}
 use Rattle.clock_choices.specs.Linking.{IsBeforeRun}
 use Rattle.clock_choices.proofs.Extending.{extends_both, extends_none, on_new}
 use Rattle.clock_choices.proofs.Links.{all_taken, before_run_stays, brings_more, brings_none}

@@ -1,9 +1,9 @@
 use Rattle.std.proofs.Common.{List, All, Contains, take}
 use Rattle.order_check.specs.declared.remainder.Parts.{Parts}
 use Rattle.order_check.specs.Known.{ReadsBase}
-use Rattle.key_index.specs.declared.runs.Run.{Run}
-use Rattle.key_index.specs.Index.{AreRunsOf}
+use Rattle.clock_choices.specs.declared.runs.Run.{Run}
 use Rattle.clock_choices.specs.Extending.{Extends, reached_in}
+use Rattle.clock_choices.specs.Index.{AreRunsOf}
 use Rattle.clock_choices.specs.Linking.{Brings, IsBeforeRun}
 use Rattle.clock_choices.proofs.linking.link_readers.Given as goal
 

@@ -1,7 +1,7 @@
 use Rattle.std.proofs.Common.{ℕ, All, take}
 use Rattle.order_check.specs.declared.remainder.Parts.{Parts}
-use Rattle.key_index.specs.Index.{AreRunsOf, IsRead, runs_of}
 use Rattle.clock_choices.specs.Extending.{Extends, reached_in}
+use Rattle.clock_choices.specs.Index.{AreRunsOf, IsRead, runs_of}
 use Rattle.clock_choices.specs.Linking.{Brings, IsLinked}
 use Rattle.clock_choices.proofs.linking.link_reads.Given as goal
 

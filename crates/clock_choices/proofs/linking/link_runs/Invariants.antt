@@ -1,8 +1,8 @@
 use Rattle.std.proofs.Common.{All, take}
 use Rattle.order_check.specs.declared.remainder.Parts.{Parts}
 use Rattle.order_check.specs.Known.{ReadsBase}
-use Rattle.key_index.specs.Index.{AreRunsOf}
 use Rattle.clock_choices.specs.Extending.{Extends, reached_in}
+use Rattle.clock_choices.specs.Index.{AreRunsOf}
 use Rattle.clock_choices.specs.Linking.{Brings, IsBeforeRun}
 use Rattle.clock_choices.proofs.linking.link_runs.Given as goal
 

@@ -1,8 +1,7 @@
 use Rattle.std.proofs.Common.{All, sym}
 use Rattle.std.proofs.lemmas.Result.{on_ok_weaker}
 use Rattle.session_clocks.specs.Reach.{IsThere}
-use Rattle.key_index.specs.Index.{runs_of}
-use Rattle.clock_choices.specs.RunsThere.{IsRunThere}
+use Rattle.clock_choices.specs.Index.{IsRunThere, runs_of}
 use Rattle.clock_choices.specs.Linking.{AreNodesOf}
 use Rattle.clock_choices.proofs.Extending.{extends_both, on_new}
 use Rattle.clock_choices.proofs.Links.{all_read, index_there, reads_are, txn_brings}

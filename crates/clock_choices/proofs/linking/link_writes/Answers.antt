@@ -2,11 +2,10 @@ use Rattle.std.proofs.Common.{ℕ, get_or, refl, All}
 use Rattle.std.proofs.lemmas.List.Elements.{All-nil}
 use Rattle.txn.specs.declared.transactions.TxnId.{TxnId}
 use Rattle.session_clocks.specs.Reach.{IsThere}
-use Rattle.key_index.specs.Index.{runs_of}
-use Rattle.key_index.specs.Lists.{list_at}
 use Rattle.clock_choices.specs.Extending.{reached_in}
-use Rattle.clock_choices.specs.RunsThere.{IsRunThere}
+use Rattle.clock_choices.specs.Index.{IsRunThere, runs_of}
 use Rattle.clock_choices.specs.Linking.{AreWritersLinked}
+use Rattle.clock_choices.specs.Lists.{list_at}
 use Rattle.clock_choices.proofs.Extending.{extends_both, extends_none, on_new}
 use Rattle.clock_choices.proofs.Links.{all_taken, base_readers, brings_more, brings_none, index_there, readers_there, writers_linked_stay}
 use Rattle.clock_choices.proofs.linking.link_writes.Goals as goal

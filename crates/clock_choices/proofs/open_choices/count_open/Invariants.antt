@@ -1,6 +1,6 @@
 use Rattle.std.proofs.Common.{List, take}
 use Rattle.txn.specs.declared.choices.Choice.{Choice}
-use Rattle.key_index.specs.Adds.{Among}
+use Rattle.clock_choices.specs.Adds.{Among}
 use Rattle.clock_choices.specs.Counted.{IsCounted}
 use Rattle.clock_choices.specs.Extending.{reached_in}
 use Rattle.clock_choices.specs.Opens.{AreOpenOf, IsOfReader}

@@ -1,9 +1,9 @@
-use Rattle.std.proofs.Common.{◌≡◌, ◌++◌, sym, subst, []}
+use Rattle.std.proofs.Common.{◌≡◌, ◌++◌, [], sym, subst}
 use Rattle.txn.specs.declared.choices.Choice.{Choice}
-use Rattle.key_index.specs.declared.runs.Run.{Run}
-use Rattle.key_index.specs.Adds.{Among}
+use Rattle.clock_choices.specs.declared.runs.Run.{Run}
+use Rattle.clock_choices.specs.Adds.{Among}
 use Rattle.clock_choices.specs.Extending.{reached_in}
-use Rattle.clock_choices.specs.RunsThere.{IsRunThere}
+use Rattle.clock_choices.specs.Index.{IsRunThere}
 use Rattle.clock_choices.specs.Opens.{IsOfRun, read_of}
 use Rattle.clock_choices.proofs.Countings.{tallies_both, tallies_none}
 use Rattle.clock_choices.proofs.OpenReads.{run_of_read, runs_all, runs_apart}

@@ -2,10 +2,10 @@ use Rattle.std.proofs.Common.{List, take}
 use Rattle.txn.specs.declared.choices.Choice.{Choice}
 use Rattle.order_check.specs.declared.remainder.Parts.{Parts}
 use Rattle.order_check.specs.Known.{WritesKey}
-use Rattle.key_index.specs.Adds.{Among}
-use Rattle.key_index.specs.Index.{AreRunsOf, IsRead}
+use Rattle.clock_choices.specs.Adds.{Among}
 use Rattle.clock_choices.specs.Counted.{TalliesOn}
 use Rattle.clock_choices.specs.Extending.{reached_in}
+use Rattle.clock_choices.specs.Index.{AreRunsOf, IsRead}
 use Rattle.clock_choices.specs.Opens.{AreOpenOf, IsOfRun}
 use Rattle.clock_choices.proofs.open_choices.count_read.Given as goal
 

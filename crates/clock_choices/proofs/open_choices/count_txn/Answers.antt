@@ -1,11 +1,11 @@
-use Rattle.std.proofs.Common.{◌≡◌, ◌++◌, ℕ, true, get_or, sym, []}
+use Rattle.std.proofs.Common.{◌≡◌, ◌++◌, ℕ, true, [], get_or, sym}
 use Rattle.std.specs.List.{AllPairs}
 use Rattle.std.proofs.lemmas.List.{get_or_default}
 use Rattle.txn.specs.declared.transactions.Source.{Source}
 use Rattle.txn.specs.declared.transactions.Source.TheVariants.{Init}
 use Rattle.txn.specs.declared.choices.Choice.{Choice}
 use Rattle.txn.specs.Transactions.{read_below}
-use Rattle.key_index.specs.Adds.{Among}
+use Rattle.clock_choices.specs.Adds.{Among}
 use Rattle.clock_choices.specs.Extending.{reached_in}
 use Rattle.clock_choices.specs.Opens.{IsOfReader, IsOfSource}
 use Rattle.clock_choices.proofs.ChoiceOrder.{reads_rise}

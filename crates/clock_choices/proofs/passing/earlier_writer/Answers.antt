@@ -1,9 +1,9 @@
 use Rattle.std.proofs.Common.{◌≤◌, sym, subst, Contains}
 use Rattle.std.proofs.lemmas.List.Elements.{Contains-get_or}
 use Rattle.txn.specs.declared.transactions.TxnId.{TxnId}
-use Rattle.key_index.specs.declared.runs.Run.{Run}
-use Rattle.key_index.specs.Runs.{IsLastThird, IsThird}
+use Rattle.clock_choices.specs.declared.runs.Run.{Run}
 use Rattle.clock_choices.specs.Passing.{IsEarlier}
+use Rattle.clock_choices.specs.Runs.{IsLastThird, IsThird}
 use Rattle.clock_choices.proofs.Passes.{earlier_found, if_some_match}
 use Rattle.clock_choices.proofs.passing.earlier_writer.Goals as goal
 

@@ -2,10 +2,10 @@ use Rattle.std.proofs.Common.{Contains}
 use Rattle.std.proofs.lemmas.List.Elements.{All-weaker}
 use Rattle.std.proofs.lemmas.Result.{on_ok_weaker}
 use Rattle.session_clocks.specs.Reach.{IsThere, Reaches}
-use Rattle.key_index.specs.declared.runs.Run.{Run}
-use Rattle.key_index.specs.Runs.{Climbs}
-use Rattle.clock_choices.specs.RunsThere.{IsRunThere}
+use Rattle.clock_choices.specs.declared.runs.Run.{Run}
+use Rattle.clock_choices.specs.Index.{IsRunThere}
 use Rattle.clock_choices.specs.Passing.{IsEarlier}
+use Rattle.clock_choices.specs.Runs.{Climbs}
 use Rattle.clock_choices.proofs.Growths.{on_ok_two}
 use Rattle.clock_choices.proofs.Passes.{earlier_there, if_some_weaker, noted_runs}
 use Rattle.clock_choices.proofs.passing.note_key.Goals as goal

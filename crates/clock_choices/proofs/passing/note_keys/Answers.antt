@@ -2,7 +2,7 @@ use Rattle.std.proofs.Common.{ℕ, get_or, take}
 use Rattle.std.proofs.lemmas.List.Elements.{All-more, All-nil, All-weaker}
 use Rattle.txn.specs.declared.transactions.TxnId.{TxnId}
 use Rattle.session_clocks.specs.Reach.{Reaches}
-use Rattle.key_index.specs.Index.{runs_of}
+use Rattle.clock_choices.specs.Index.{runs_of}
 use Rattle.clock_choices.specs.Passing.{IsNotedInRuns}
 use Rattle.clock_choices.proofs.Links.{all_taken}
 use Rattle.clock_choices.proofs.Passes.{noted_runs_stay}

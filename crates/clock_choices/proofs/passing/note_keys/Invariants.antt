@@ -1,7 +1,7 @@
 use Rattle.std.proofs.Common.{ℕ, All, Contains, take}
 use Rattle.txn.specs.declared.transactions.TxnId.{TxnId}
 use Rattle.session_clocks.specs.Reach.{Reaches}
-use Rattle.key_index.specs.Index.{runs_of}
+use Rattle.clock_choices.specs.Index.{runs_of}
 use Rattle.clock_choices.specs.Passing.{IsNotedInRuns}
 use Rattle.clock_choices.proofs.passing.note_keys.Given as goal
 

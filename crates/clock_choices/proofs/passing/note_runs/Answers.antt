@@ -2,8 +2,8 @@ use Rattle.std.proofs.Common.{take, sym, subst}
 use Rattle.std.proofs.lemmas.List.Elements.{All-more, All-nil, All-weaker}
 use Rattle.txn.specs.declared.transactions.TxnId.{TxnId}
 use Rattle.session_clocks.specs.Reach.{Reaches}
-use Rattle.key_index.specs.declared.runs.Run.{Run}
-use Rattle.clock_choices.specs.RunsThere.{IsRunThere}
+use Rattle.clock_choices.specs.declared.runs.Run.{Run}
+use Rattle.clock_choices.specs.Index.{IsRunThere}
 use Rattle.clock_choices.specs.Passing.{IsNotedInRun}
 use Rattle.clock_choices.proofs.Links.{all_taken}
 use Rattle.clock_choices.proofs.Passes.{noted_run_stays}

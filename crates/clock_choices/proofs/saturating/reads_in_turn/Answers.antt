@@ -1,7 +1,6 @@
 use Rattle.std.proofs.Common.{◌∙◌, List, Vec, Global, inl, inr, ap, sym, subst, Contains}
-use Rattle.std.proofs.lemmas.List.{take_all}
-use Rattle.key_index.specs.declared.reads.Read.{Read}
-use Rattle.clock_choices.proofs.Settled.{turn_more}
+use Rattle.clock_choices.specs.declared.reads.Read.{Read}
+use Rattle.clock_choices.proofs.Settled.{take_all, turn_more}
 use Rattle.clock_choices.proofs.saturating.reads_in_turn.Goals as goal
 use Rattle.clock_choices.proofs.saturating.reads_in_turn.Goals.{then-not-is_left+in_ok-push, else-not-is_left}
 
@@ -19,4 +18,4 @@ loop-read-preserved c =
     record { each = more.0; all = more.1 }
 
 pub returns-clause-all : goal.returns-clause-all
-returns-clause-all c = λ read there. let was = c.loop-read.invariant in was.all read (subst (λ (some : List Read). Contains some read) (sym (take_all c.loop-read.read-index c.args.reads.now c.loop-read-test.false)) there)
+returns-clause-all c = λ read there. let was = c.loop-read.invariant in was.all read (subst (λ (some : List Read). Contains some read) (sym (take_all c.args.reads.now c.loop-read.read-index c.loop-read-test.false)) there)

@@ -1,5 +1,5 @@
 use Rattle.std.proofs.Common.{◌⊎◌, Contains, take}
-use Rattle.key_index.specs.declared.reads.Read.{Read}
+use Rattle.clock_choices.specs.declared.reads.Read.{Read}
 use Rattle.clock_choices.specs.Stages.{IsLeftTo}
 use Rattle.clock_choices.proofs.saturating.reads_in_turn.Given as goal
 

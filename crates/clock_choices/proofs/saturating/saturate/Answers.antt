@@ -1,13 +1,12 @@
-use Rattle.std.proofs.Common.{◌≡◌, ◌∙◌, ◌∷◌, List, [], length, refl, sym, subst, arith, Contains, All}
+use Rattle.std.proofs.Common.{◌≡◌, ◌∙◌, [], ◌∷◌, List, length, refl, sym, subst, arith, Contains, All}
 use Rattle.std.proofs.lemmas.Bool.{eqb-true}
 use Rattle.std.proofs.lemmas.List.Elements.{All-contains}
 use Rattle.txn.specs.declared.transactions.TxnId.{TxnId}
 use Rattle.session_clocks.specs.Reach.{IsThere}
-use Rattle.key_index.specs.declared.reads.Read.{Read}
-use Rattle.key_index.specs.Index.{reads_of, runs_of}
+use Rattle.clock_choices.specs.declared.reads.Read.{Read}
 use Rattle.clock_choices.specs.Extending.{reached_in}
 use Rattle.clock_choices.specs.Forcing.{unforced}
-use Rattle.clock_choices.specs.RunsThere.{IsRunThere}
+use Rattle.clock_choices.specs.Index.{IsRunThere, reads_of, runs_of}
 use Rattle.clock_choices.specs.Pending.{IsClosedBut}
 use Rattle.clock_choices.specs.Stages.{IsTxnSettled}
 use Rattle.clock_choices.proofs.Extending.{extends_both, extends_none, on_new}

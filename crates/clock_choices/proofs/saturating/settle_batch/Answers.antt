@@ -1,17 +1,15 @@
-use Rattle.std.proofs.Common.{◌∙◌, List, [], get_or, take, sym, subst, All}
-use Rattle.std.proofs.lemmas.List.{take_all}
+use Rattle.std.proofs.Common.{◌∙◌, [], List, get_or, take, sym, subst, All}
 use Rattle.std.proofs.lemmas.List.Elements.{All-nil, All-more, All-weaker}
 use Rattle.txn.specs.declared.transactions.TxnId.{TxnId}
 use Rattle.session_clocks.specs.Reach.{IsThere}
-use Rattle.key_index.specs.declared.reads.Read.{Read}
-use Rattle.key_index.specs.Index.{IsRead, reads_of, runs_of}
-use Rattle.clock_choices.specs.RunsThere.{IsRunThere}
+use Rattle.clock_choices.specs.declared.reads.Read.{Read}
 use Rattle.clock_choices.specs.Extending.{reached_in}
 use Rattle.clock_choices.specs.Forcing.{unforced, IsGrowth}
+use Rattle.clock_choices.specs.Index.{IsRead, IsRunThere, reads_of, runs_of}
 use Rattle.clock_choices.specs.Stages.{IsTurnSettled}
 use Rattle.clock_choices.proofs.Extending.{extends_both, extends_none, on_new}
 use Rattle.clock_choices.proofs.Growths.{growth_none, growth_both, forces_both}
-use Rattle.clock_choices.proofs.Settled.{among_reads, batch_settled, turn_settled, turn_stays}
+use Rattle.clock_choices.proofs.Settled.{among_reads, batch_settled, take_all, turn_settled, turn_stays}
 use Rattle.clock_choices.proofs.saturating.settle_batch.Goals as goal
 
 pub loop-id-init : goal.loop-id-init
@@ -72,5 +70,5 @@ returns c =
       growth = was.growth;
       forces = was.forces;
       settled = λ parts are reads. batch_settled parts R due batch
-          (subst (λ (some : List TxnId). All (IsTurnSettled parts R due batch) some) (take_all c.loop-id.id-index c.ids-ids.result.now c.loop-id-test.false ∙ c.ids-ids.ensures) (was.settled parts are reads));
+          (subst (λ (some : List TxnId). All (IsTurnSettled parts R due batch) some) (take_all c.ids-ids.result.now c.loop-id.id-index c.loop-id-test.false ∙ c.ids-ids.ensures) (was.settled parts are reads));
     }

@@ -1,9 +1,9 @@
 use Rattle.std.proofs.Common.{ℕ, [], All, take}
 use Rattle.txn.specs.declared.transactions.TxnId.{TxnId}
 use Rattle.order_check.specs.declared.remainder.Parts.{Parts}
-use Rattle.key_index.specs.Index.{AreReadsOf, AreRunsOf, reads_of, runs_of}
 use Rattle.clock_choices.specs.Extending.{Extends, reached_in}
 use Rattle.clock_choices.specs.Forcing.{Forces, IsGrowth}
+use Rattle.clock_choices.specs.Index.{AreReadsOf, AreRunsOf, reads_of, runs_of}
 use Rattle.clock_choices.specs.Stages.{IsTurnSettled}
 use Rattle.clock_choices.proofs.saturating.settle_batch.Given as goal
 

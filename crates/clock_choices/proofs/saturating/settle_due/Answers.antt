@@ -2,13 +2,12 @@ use Rattle.std.proofs.Common.{◌∙◌, OnOk, sym}
 use Rattle.std.proofs.lemmas.Bool.{false≢true}
 use Rattle.std.proofs.lemmas.List.Elements.{All-weaker}
 use Rattle.std.proofs.lemmas.Result.{on_ok_weaker}
-use Rattle.key_index.specs.declared.runs.Run.{Run}
-use Rattle.key_index.specs.Index.{runs_of}
-use Rattle.key_index.specs.Runs.{Climbs}
+use Rattle.clock_choices.specs.declared.runs.Run.{Run}
 use Rattle.clock_choices.specs.Due.{AreNoted}
 use Rattle.clock_choices.specs.Extending.{reached_in}
 use Rattle.clock_choices.specs.Forcing.{unforced}
-use Rattle.clock_choices.specs.RunsThere.{IsRunThere}
+use Rattle.clock_choices.specs.Index.{IsRunThere, runs_of}
+use Rattle.clock_choices.specs.Runs.{Climbs}
 use Rattle.clock_choices.proofs.Growths.{growth_none}
 use Rattle.clock_choices.proofs.Settled.{growth_noted, in_runs_there, read_settled, runs_choices, unwritten_settled}
 use Rattle.clock_choices.proofs.saturating.settle_due.Goals as goal

@@ -1,15 +1,13 @@
 use Rattle.std.proofs.Common.{List, get_or, take, subst, All}
-use Rattle.std.proofs.lemmas.List.{take_all}
 use Rattle.std.proofs.lemmas.List.Elements.{All-nil, All-more, All-weaker}
-use Rattle.key_index.specs.declared.reads.Read.{Read}
-use Rattle.key_index.specs.Index.{runs_of}
-use Rattle.clock_choices.specs.RunsThere.{IsRunThere}
+use Rattle.clock_choices.specs.declared.reads.Read.{Read}
 use Rattle.clock_choices.specs.Extending.{reached_in}
 use Rattle.clock_choices.specs.Forcing.{unforced}
+use Rattle.clock_choices.specs.Index.{IsRunThere, runs_of}
 use Rattle.clock_choices.specs.Stages.{IsReadSettled}
 use Rattle.clock_choices.proofs.Extending.{extends_both, extends_none, on_new}
 use Rattle.clock_choices.proofs.Growths.{growth_none, growth_both, forces_both}
-use Rattle.clock_choices.proofs.Settled.{read_stays}
+use Rattle.clock_choices.proofs.Settled.{read_stays, take_all}
 use Rattle.clock_choices.proofs.saturating.settle_reads.Goals as goal
 
 abbrev none : Read
@@ -49,4 +47,4 @@ loop-read-preserved c =
 pub returns-clause-settled : goal.returns-clause-settled
 returns-clause-settled c = λ parts are.
     let was = c.loop-read.invariant in
-    subst (λ (some : List Read). All (IsReadSettled parts (reached_in c.loop-read.graph) c.loop-read.due) some) (take_all c.loop-read.read-index c.args.reads.now c.loop-read-test.false) (was.settled parts are)
+    subst (λ (some : List Read). All (IsReadSettled parts (reached_in c.loop-read.graph) c.loop-read.due) some) (take_all c.args.reads.now c.loop-read.read-index c.loop-read-test.false) (was.settled parts are)

@@ -1,8 +1,8 @@
 use Rattle.std.proofs.Common.{ℕ, All, take}
 use Rattle.order_check.specs.declared.remainder.Parts.{Parts}
-use Rattle.key_index.specs.Index.{AreRunsOf, IsRead, runs_of}
 use Rattle.clock_choices.specs.Extending.{Extends, reached_in}
 use Rattle.clock_choices.specs.Forcing.{Forces, IsGrowth}
+use Rattle.clock_choices.specs.Index.{AreRunsOf, IsRead, runs_of}
 use Rattle.clock_choices.specs.Stages.{IsReadSettled}
 use Rattle.clock_choices.proofs.saturating.settle_reads.Given as goal
 

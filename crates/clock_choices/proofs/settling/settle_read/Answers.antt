@@ -1,13 +1,13 @@
 use Rattle.std.proofs.Common.{List, take, sym, subst, All}
-use Rattle.std.proofs.lemmas.List.{take_all}
 use Rattle.std.proofs.lemmas.List.Elements.{All-nil, All-more, All-weaker}
 use Rattle.session_clocks.specs.Reach.{IsThere}
-use Rattle.key_index.specs.declared.runs.Run.{Run}
-use Rattle.clock_choices.specs.RunsThere.{IsRunThere}
+use Rattle.clock_choices.specs.declared.runs.Run.{Run}
 use Rattle.clock_choices.specs.Extending.{reached_in}
 use Rattle.clock_choices.specs.Forcing.{AreRunChoices, IsRunSettled, unforced}
+use Rattle.clock_choices.specs.Index.{IsRunThere}
 use Rattle.clock_choices.proofs.Extending.{extends_both, extends_none, on_new}
 use Rattle.clock_choices.proofs.Growths.{growth_none, growth_both, forces_both, run_stays}
+use Rattle.clock_choices.proofs.Settled.{take_all}
 use Rattle.clock_choices.proofs.settling.settle_read.Goals as goal
 
 pub loop-run-init : goal.loop-run-init
@@ -49,4 +49,4 @@ loop-run-preserved c =
 pub returns-clause-settled : goal.returns-clause-settled
 returns-clause-settled c =
     let was = c.loop-run.invariant in
-    subst (λ (some : List Run). All (IsRunSettled (reached_in c.loop-run.graph) c.loop-run.told.items c.args.read) some) (take_all c.loop-run.run-index c.args.runs.now c.loop-run-test.false) was.settled
+    subst (λ (some : List Run). All (IsRunSettled (reached_in c.loop-run.graph) c.loop-run.told.items c.args.read) some) (take_all c.args.runs.now c.loop-run.run-index c.loop-run-test.false) was.settled

@@ -2,7 +2,7 @@ use Rattle.std.proofs.lemmas.Result.{on_ok_weaker}
 use Rattle.txn.specs.declared.choices.Side.TheVariants.{First, Second}
 use Rattle.session_clocks.specs.Graphs.{HasNode}
 use Rattle.clock_choices.specs.Extending.{reached_in}
-use Rattle.clock_choices.specs.RunsThere.{IsRunThere}
+use Rattle.clock_choices.specs.Index.{IsRunThere}
 use Rattle.clock_choices.proofs.Extending.{on_new}
 use Rattle.clock_choices.proofs.Growths.{on_ok_two, decided_there, growth_both, forces_both, other_there, run_settled}
 use Rattle.clock_choices.proofs.settling.settle_run.Goals as goal

@@ -1,11 +1,12 @@
-use Rattle.std.proofs.Common.{◌≡◌, ◌++◌, ◌∷◌, List, [], length, ap, sym, subst₂}
+use Rattle.std.proofs.Common.{◌≡◌, ◌++◌, ◌∷◌, [], List, length, ap, sym, subst₂}
 use Rattle.txn.specs.declared.choices.Arc.{Arc}
 use Rattle.txn.specs.declared.choices.Arc.TheVariants.{Taken}
 use Rattle.session_clocks.specs.Graphs.{HasNode}
 use Rattle.clock_choices.specs.declared.steps.Forced.{Forced}
-use Rattle.clock_choices.specs.Extending.{Extends, reached_in}
+use Rattle.clock_choices.specs.Extending.{reached_in}
+use Rattle.clock_choices.specs.Extending.{Extends}
 use Rattle.clock_choices.specs.Forcing.{ForcesOver, IsGrowth, IsTaken, choice_of, forced, unforced}
-use Rattle.clock_choices.specs.RunsThere.{IsRunThere}
+use Rattle.clock_choices.specs.Index.{IsRunThere}
 use Rattle.clock_choices.specs.Steps.{taken_arc}
 use Rattle.clock_choices.proofs.Extending.{on_new}
 use Rattle.clock_choices.proofs.Growths.{by_last, growth_told, settled_by, side_there}

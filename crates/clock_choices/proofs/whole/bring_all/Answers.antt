@@ -1,11 +1,10 @@
-use Rattle.std.proofs.Common.{◌-◌, ◌^◌, ℕ, OnOk, All, Contains, []}
+use Rattle.std.proofs.Common.{◌-◌, ◌^◌, ℕ, [], OnOk, All, Contains}
 use Rattle.std.proofs.lemmas.Result.{on_ok_weaker}
 use Rattle.txn.specs.declared.transactions.TxnId.{TxnId}
 use Rattle.session_clocks.specs.Reach.{IsThere}
-use Rattle.key_index.specs.declared.reads.Read.{Read}
-use Rattle.key_index.specs.Index.{reads_of, runs_of}
+use Rattle.clock_choices.specs.declared.reads.Read.{Read}
 use Rattle.clock_choices.specs.Forcing.{Forces}
-use Rattle.clock_choices.specs.RunsThere.{IsRunThere}
+use Rattle.clock_choices.specs.Index.{IsRunThere, reads_of, runs_of}
 use Rattle.clock_choices.proofs.Extending.{on_new}
 use Rattle.clock_choices.proofs.Growths.{on_ok_two}
 use Rattle.clock_choices.proofs.Links.{index_there, reads_are}

@@ -1,7 +1,7 @@
 use Rattle.std.proofs.Common.{refl}
 use Rattle.log_text.specs.Answers.{handed_named, handed_in}
 use Rattle.log_text.proofs.FormsRead.{handed_law, word_none, word_then}
-use Rattle.log_text.proofs.FewRead.{ok_then}
+use Rattle.log_text.proofs.TokensRead.{ok_then}
 use Rattle.log_text.proofs.answers.handed_in.Goals as goal
 
 pub returns-in-Some : goal.returns-in-Some

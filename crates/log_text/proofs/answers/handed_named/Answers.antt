@@ -1,7 +1,7 @@
 use Rattle.std.proofs.Common.{rules, ◌≡◌, ℕ, List, codes, sym, subst}
 use Rattle.log_text.specs.Answers.{handed_named}
 use Rattle.log_text.specs.Streams.{AreRead}
-use Rattle.log_text.proofs.FewRead.{ok_then}
+use Rattle.log_text.proofs.TokensRead.{ok_then}
 use Rattle.log_text.proofs.answers.handed_named.Goals as goal
 
 pub returns-in-order : goal.returns-in-order

@@ -1,5 +1,5 @@
 use Rattle.log_text.proofs.AnswersRead.{nothing_handed, more_behind, all_shown}
-use Rattle.log_text.proofs.FewRead.{ok_then}
+use Rattle.log_text.proofs.TokensRead.{ok_then}
 use Rattle.log_text.proofs.answers.read_answer.Goals as goal
 
 pub returns-in_default : goal.returns-in_default

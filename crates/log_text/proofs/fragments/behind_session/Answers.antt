@@ -3,9 +3,7 @@ use Rattle.json.specs.Reads.{token_of}
 use Rattle.log_text.specs.Kept.{behind_in, behind_of}
 use Rattle.log_text.specs.Streams.{opens_array}
 use Rattle.log_text.specs.declared.fragments.Behind.TheVariants.{First}
-use Rattle.log_text.proofs.FewRead.{ok_then}
-use Rattle.log_text.proofs.ItemsRead.{at_array}
-use Rattle.log_text.proofs.TokensRead.{plain_token_read, no_token_read}
+use Rattle.log_text.proofs.TokensRead.{ok_then, at_array, plain_token_read, no_token_read}
 use Rattle.log_text.proofs.TxnsRead.{behind_first}
 use Rattle.log_text.proofs.fragments.behind_session.Goals as goal
 

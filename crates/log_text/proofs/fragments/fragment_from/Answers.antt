@@ -1,6 +1,5 @@
 use Rattle.log_text.specs.Kept.{made, txns_of}
-use Rattle.log_text.proofs.TokensRead.{is_read}
-use Rattle.log_text.proofs.ItemsRead.{one_none, one_ends, one_goes_on}
+use Rattle.log_text.proofs.TokensRead.{is_read, one_none, one_ends, one_goes_on}
 use Rattle.log_text.proofs.fragments.fragment_from.Goals as goal
 
 pub returns-in_default : goal.returns-in_default

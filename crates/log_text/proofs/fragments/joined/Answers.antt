@@ -1,8 +1,7 @@
 use Rattle.std.proofs.Common.{Some, ap, ◌∙◌}
 use Rattle.log_text.specs.Numbers.{session_of}
 use Rattle.log_text.specs.Kept.{behind_of}
-use Rattle.log_text.proofs.TokensRead.{is_read}
-use Rattle.log_text.proofs.FewRead.{ok_then}
+use Rattle.log_text.proofs.TokensRead.{is_read, ok_then}
 use Rattle.log_text.proofs.TxnsRead.{no_session, no_behind, joined_then, joined_alone, joined_goes_on}
 use Rattle.log_text.proofs.fragments.joined.Goals as goal
 

@@ -2,9 +2,7 @@ use Rattle.std.proofs.Common.{refl, option_map}
 use Rattle.log_text.specs.Items.{each_of, list_of}
 use Rattle.log_text.specs.Commands.{txn_of}
 use Rattle.log_text.specs.Kept.{kept, txns_of}
-use Rattle.log_text.proofs.FewRead.{ok_then}
-use Rattle.log_text.proofs.ItemsRead.{at_array, is_read_map}
-use Rattle.log_text.proofs.TokensRead.{array_none}
+use Rattle.log_text.proofs.TokensRead.{ok_then, at_array, array_none, is_read_map}
 use Rattle.log_text.proofs.fragments.list_of_txns.Goals as goal
 
 pub returns-then-takes_array : goal.returns-then-takes_array

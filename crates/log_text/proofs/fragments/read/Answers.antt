@@ -4,9 +4,7 @@ use Rattle.log_text.specs.Items.{array_of}
 use Rattle.log_text.specs.Commands.{read_in}
 use Rattle.log_text.specs.Streams.{few_in}
 use Rattle.log_text.proofs.Atoms.{read_takes_few}
-use Rattle.log_text.proofs.FewRead.{few_array_then, few_array_not}
-use Rattle.log_text.proofs.ItemsRead.{few_given, few_missing}
-use Rattle.log_text.proofs.TokensRead.{is_read}
+use Rattle.log_text.proofs.TokensRead.{few_array_then, few_array_not, few_given, few_missing, is_read}
 use Rattle.log_text.proofs.fragments.read.Goals as goal
 
 pub returns-in-Some : goal.returns-in-Some

@@ -1,7 +1,6 @@
 use Rattle.log_text.specs.Items.{each_of}
 use Rattle.log_text.specs.Commands.{read_of}
-use Rattle.log_text.proofs.FewRead.{ok_then}
-use Rattle.log_text.proofs.TokensRead.{array_then, array_none}
+use Rattle.log_text.proofs.TokensRead.{ok_then, array_then, array_none}
 use Rattle.log_text.proofs.fragments.reads.Goals as goal
 
 pub returns-then-takes_array : goal.returns-then-takes_array

@@ -1,8 +1,7 @@
 use Rattle.log_text.specs.Items.{list_of}
 use Rattle.log_text.specs.Numbers.{whole_number}
 use Rattle.log_text.specs.Commands.{flag_of}
-use Rattle.log_text.proofs.TokensRead.{is_read}
-use Rattle.log_text.proofs.FewRead.{ok_then}
+use Rattle.log_text.proofs.TokensRead.{is_read, ok_then}
 use Rattle.log_text.proofs.MarksRead.{marks_none, marks_then, closed_none, closed_then}
 use Rattle.log_text.proofs.lines.marks.Goals as goal
 

@@ -1,5 +1,5 @@
 use Rattle.log_text.proofs.HeldForms.{named_offer, named_join, named_marks, named_last, named_plain, other_word}
-use Rattle.log_text.proofs.FewRead.{ok_then}
+use Rattle.log_text.proofs.TokensRead.{ok_then}
 use Rattle.log_text.proofs.lines.named.Goals as goal
 
 pub returns-in-offer-clause-form : goal.returns-in-offer-clause-form

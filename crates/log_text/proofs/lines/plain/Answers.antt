@@ -2,10 +2,8 @@ use Rattle.std.proofs.Common.{ap, ◌∙◌}
 use Rattle.serde_json.specs.View.{items_view}
 use Rattle.log_text.specs.Lines.{plain_named}
 use Rattle.log_text.specs.Streams.{few_in}
-use Rattle.log_text.proofs.NamedAtoms.{plain_takes_few}
-use Rattle.log_text.proofs.FewRead.{few_then, few_not}
-use Rattle.log_text.proofs.ItemsRead.{few_given, few_missing}
-use Rattle.log_text.proofs.TokensRead.{are_read}
+use Rattle.log_text.proofs.Atoms.{plain_takes_few}
+use Rattle.log_text.proofs.TokensRead.{few_then, few_not, few_given, few_missing, are_read}
 use Rattle.log_text.proofs.lines.plain.Goals as goal
 
 pub returns-in-Some-clause-form : goal.returns-in-Some-clause-form

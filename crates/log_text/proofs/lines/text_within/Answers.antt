@@ -1,7 +1,7 @@
 use Rattle.std.proofs.Common.{ap, sym, ◌∙◌}
 use Rattle.log_text.specs.Streams.{opens_array}
 use Rattle.log_text.proofs.LinesRead.{no_bracket, no_name, answered_is, command_is}
-use Rattle.log_text.proofs.FewRead.{ok_then}
+use Rattle.log_text.proofs.TokensRead.{ok_then}
 use Rattle.log_text.proofs.lines.text_within.Goals as goal
 
 pub returns-then-not-takes_array-clause-form : goal.returns-then-not-takes_array-clause-form

@@ -2,8 +2,7 @@ use Rattle.std.proofs.Common.{refl}
 use Rattle.log_text.specs.Items.{list_of}
 use Rattle.log_text.specs.Numbers.{whole_number}
 use Rattle.log_text.specs.declared.commands.Command.TheVariants.{OfferTimed}
-use Rattle.log_text.proofs.TokensRead.{is_read}
-use Rattle.log_text.proofs.ItemsRead.{one_none, one_ends, one_goes_on}
+use Rattle.log_text.proofs.TokensRead.{is_read, one_none, one_ends, one_goes_on}
 use Rattle.log_text.proofs.offers.ended.Goals as goal
 
 pub returns-in_default-clause-form : goal.returns-in_default-clause-form

@@ -1,6 +1,6 @@
 use Rattle.log_text.proofs.HeldForms.{offer_read}
 use Rattle.log_text.proofs.OffersRead.{session_none, session_then}
-use Rattle.log_text.proofs.FewRead.{ok_then}
+use Rattle.log_text.proofs.TokensRead.{ok_then}
 use Rattle.log_text.proofs.offers.offer.Goals as goal
 
 pub returns-in-Some-clause-form : goal.returns-in-Some-clause-form

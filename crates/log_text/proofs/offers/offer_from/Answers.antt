@@ -1,7 +1,6 @@
 use Rattle.log_text.specs.Kept.{txns_of}
 use Rattle.log_text.proofs.OffersRead.{txns_none, txns_then}
-use Rattle.log_text.proofs.TokensRead.{is_read}
-use Rattle.log_text.proofs.FewRead.{ok_then}
+use Rattle.log_text.proofs.TokensRead.{is_read, ok_then}
 use Rattle.log_text.proofs.offers.offer_from.Goals as goal
 
 pub returns-in_default-clause-form : goal.returns-in_default-clause-form

@@ -1,5 +1,5 @@
 use Rattle.log_text.proofs.OffersRead.{first_none, first_then}
-use Rattle.log_text.proofs.FewRead.{ok_then}
+use Rattle.log_text.proofs.TokensRead.{ok_then}
 use Rattle.log_text.proofs.offers.offer_of.Goals as goal
 
 pub returns-in-Some-clause-form : goal.returns-in-Some-clause-form

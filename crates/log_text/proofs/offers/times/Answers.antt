@@ -2,8 +2,7 @@ use Rattle.std.proofs.Common.{refl}
 use Rattle.log_text.specs.Items.{list_of}
 use Rattle.log_text.specs.Numbers.{whole_number}
 use Rattle.log_text.proofs.OffersRead.{no_times, began_none, began_then}
-use Rattle.log_text.proofs.TokensRead.{is_read}
-use Rattle.log_text.proofs.FewRead.{ok_then}
+use Rattle.log_text.proofs.TokensRead.{is_read, ok_then}
 use Rattle.log_text.proofs.offers.times.Goals as goal
 
 pub returns-then-take_end_array-clause-form : goal.returns-then-take_end_array-clause-form

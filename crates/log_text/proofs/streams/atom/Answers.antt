@@ -1,7 +1,6 @@
 use Rattle.std.proofs.Common.{refl}
 use Rattle.log_text.specs.Streams.{atom_of}
-use Rattle.log_text.proofs.TokensRead.{token_read, no_token_read}
-use Rattle.log_text.proofs.FewRead.{ok_then}
+use Rattle.log_text.proofs.TokensRead.{token_read, no_token_read, ok_then}
 use Rattle.log_text.proofs.streams.atom.Goals as goal
 
 pub returns-in-None : goal.returns-in-None

@@ -2,8 +2,7 @@ use Rattle.std.proofs.Common.{◌≡◌, ◌+◌, ◌-◌, length, arith, ap, �
 use Rattle.std.proofs.lemmas.List.{length_push}
 use Rattle.serde_json.specs.View.{view}
 use Rattle.log_text.specs.Streams.{atom_of}
-use Rattle.log_text.proofs.FewRead.{few_begins, few_more, few_ends, few_none, few_full}
-use Rattle.log_text.proofs.TokensRead.{is_read}
+use Rattle.log_text.proofs.TokensRead.{few_begins, few_more, few_ends, few_none, few_full, is_read}
 use Rattle.log_text.proofs.streams.atoms.Goals as goal
 
 pub loop-alloc-init : goal.loop-alloc-init

@@ -1,6 +1,5 @@
 use Rattle.log_text.specs.Streams.{few_in}
-use Rattle.log_text.proofs.FewRead.{ok_then}
-use Rattle.log_text.proofs.TokensRead.{array_then, array_none}
+use Rattle.log_text.proofs.TokensRead.{ok_then, array_then, array_none}
 use Rattle.log_text.proofs.streams.few.Goals as goal
 
 pub returns-then-takes_array : goal.returns-then-takes_array

@@ -1,8 +1,8 @@
 use Rattle.std.proofs.Common.{ap}
 use Rattle.serde_json.specs.View.{items_view}
-use Rattle.log_text.proofs.FewRead.{few_array_not}
+use Rattle.log_text.proofs.TokensRead.{few_array_not}
 use Rattle.log_text.specs.Refutations.{arc_in}
-use Rattle.log_text.proofs.NamedAtoms.{arc_takes_few}
+use Rattle.log_text.proofs.Atoms.{arc_takes_few}
 use Rattle.log_text.proofs.FormsRead.{few_some}
 use Rattle.log_text.proofs.tree_tokens.read_arc.Goals as goal
 

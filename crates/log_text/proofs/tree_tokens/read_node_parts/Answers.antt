@@ -1,7 +1,7 @@
 use Rattle.std.proofs.Common.{refl}
 use Rattle.log_text.specs.Refutations.{node_named, node_in}
 use Rattle.log_text.proofs.FormsRead.{node_law, word_none, word_then}
-use Rattle.log_text.proofs.FewRead.{ok_then}
+use Rattle.log_text.proofs.TokensRead.{ok_then}
 use Rattle.log_text.proofs.tree_tokens.read_node_parts.Goals as goal
 
 pub returns-in-Some : goal.returns-in-Some

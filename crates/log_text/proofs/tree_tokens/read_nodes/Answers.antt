@@ -1,6 +1,5 @@
 use Rattle.log_text.specs.Owed.{nodes_in}
-use Rattle.log_text.proofs.FewRead.{ok_then}
-use Rattle.log_text.proofs.TokensRead.{array_then, array_none}
+use Rattle.log_text.proofs.TokensRead.{ok_then, array_then, array_none}
 use Rattle.log_text.proofs.tree_tokens.read_nodes.Goals as goal
 
 pub returns-then-takes_array : goal.returns-then-takes_array

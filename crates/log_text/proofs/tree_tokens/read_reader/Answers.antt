@@ -1,9 +1,8 @@
 use Rattle.std.proofs.Common.{ap, ◌∙◌, arith}
 use Rattle.serde_json.specs.View.{items_view}
 use Rattle.log_text.specs.Refutations.{reader_in}
-use Rattle.log_text.proofs.NamedAtoms.{reader_takes_few}
-use Rattle.log_text.proofs.FewRead.{few_then, few_not}
-use Rattle.log_text.proofs.TokensRead.{deeper_items}
+use Rattle.log_text.proofs.Atoms.{reader_takes_few}
+use Rattle.log_text.proofs.TokensRead.{few_then, few_not, deeper_items}
 use Rattle.log_text.proofs.tree_tokens.read_reader.Goals as goal
 
 pub returns-in-Some : goal.returns-in-Some

@@ -1,14 +1,14 @@
-use Rattle.std.proofs.Common.{◌≡◌, ◌∷◌, ◌∙◌, List, [], map, sym, ap, subst, Contains}
+use Rattle.std.proofs.Common.{◌≡◌, ◌∷◌, [], ◌∙◌, List, map, sym, ap, subst, Contains}
 use Rattle.std.specs.Prelude.{◌↔◌}
 use Rattle.txn.specs.declared.transactions.TxnId.{TxnId}
 use Rattle.order_check.specs.Based.{Remains}
 use Rattle.order_check.specs.Cycles.{AreNew}
 use Rattle.order_check.specs.Known.{IsChoice}
 use Rattle.session_clocks.specs.Graphs.{GraphState}
-use Rattle.key_index.specs.declared.indexing.Index.{Index}
-use Rattle.key_index.specs.Indexing.{AreInOrder, IsIndex}
+use Rattle.clock_choices.specs.declared.indexing.Index.{Index}
 use Rattle.clock_choices.specs.declared.branch.Top.{Top}
 use Rattle.clock_choices.specs.BranchState.{AreFullFrom, BranchState, assumed, last_steps, taken_with}
+use Rattle.clock_choices.specs.Indexing.{AreInOrder, IsIndex}
 use Rattle.clock_choices.specs.Linking.{AreNodesOf}
 use Rattle.clock_choices.specs.Stacks.{AreStacked, IsMoreBy, IsSeen, level_of, levels_of, stack_onto}
 use Rattle.clock_choices.specs.Steps.{bare}

@@ -1,4 +1,4 @@
-use Rattle.std.proofs.Common.{List, [], subst, sym, Contains}
+use Rattle.std.proofs.Common.{[], List, subst, sym, Contains}
 use Rattle.std.specs.Option.{MatchOption}
 use Rattle.std.specs.Prelude.{◌↔◌}
 use Rattle.txn.specs.declared.transactions.TxnId.{TxnId}
@@ -6,10 +6,10 @@ use Rattle.txn.specs.declared.choices.Choice.{Choice}
 use Rattle.order_check.specs.Based.{Remains}
 use Rattle.order_check.specs.Known.{IsOpen}
 use Rattle.order_check.specs.Search.{IsFirstOpen}
-use Rattle.key_index.specs.declared.indexing.Index.{Index}
-use Rattle.key_index.specs.Indexing.{AreInOrder, IsIndex}
+use Rattle.clock_choices.specs.declared.indexing.Index.{Index}
 use Rattle.clock_choices.specs.BranchState.{BranchState, assumed}
 use Rattle.clock_choices.specs.Extending.{reached_in}
+use Rattle.clock_choices.specs.Indexing.{AreInOrder, IsIndex}
 use Rattle.clock_choices.specs.Opens.{ArePassed}
 use Rattle.clock_choices.specs.Stacks.{stack_onto}
 use Rattle.clock_choices.proofs.Seeing.{at_asked, first_at, seen_by_is}

@@ -1,4 +1,4 @@
-use Rattle.std.proofs.Common.{◌∙◌, List, [], subst, sym, Contains}
+use Rattle.std.proofs.Common.{◌∙◌, [], List, subst, sym, Contains}
 use Rattle.std.specs.Prelude.{◌↔◌}
 use Rattle.txn.specs.declared.transactions.TxnId.{TxnId}
 use Rattle.txn.specs.Transactions.{Rises, id_below}
@@ -6,8 +6,8 @@ use Rattle.order_check.specs.Based.{Remains}
 use Rattle.order_check.specs.Explains.{KeepsSessions}
 use Rattle.order_check.specs.Known.{Known}
 use Rattle.session_clocks.specs.Graphs.{HasNode}
-use Rattle.key_index.specs.Indexing.{AreInOrder}
 use Rattle.clock_choices.specs.BranchState.{BranchState, assumed}
+use Rattle.clock_choices.specs.Indexing.{AreInOrder}
 use Rattle.clock_choices.specs.Ranks.{AreRanked, ids_of}
 use Rattle.clock_choices.specs.Stacks.{stack_onto}
 use Rattle.clock_choices.proofs.BranchIds.{sessions_kept, stacked_remain}

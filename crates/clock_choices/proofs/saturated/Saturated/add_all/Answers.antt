@@ -6,12 +6,12 @@ use Rattle.order_check.specs.declared.remainder.Parts.{Parts}
 use Rattle.order_check.specs.Based.{received_count}
 use Rattle.order_check.specs.Good.{IsGood}
 use Rattle.order_check.specs.StandsFor.{with_fragment}
-use Rattle.key_index.specs.declared.sharing.SharedIndex.{SharedIndex}
-use Rattle.key_index.specs.SharedIndexes.{IsIndexIn}
+use Rattle.clock_choices.specs.declared.sharing.SharedIndex.{SharedIndex}
 use Rattle.clock_choices.specs.declared.steps.Forced.{Forced}
 use Rattle.clock_choices.specs.Held.{IsHeld}
 use Rattle.clock_choices.specs.KeptLists.{IsListed}
 use Rattle.clock_choices.specs.SaturatedState.{SaturatedState}
+use Rattle.clock_choices.specs.SharedIndexes.{IsIndexIn}
 use Rattle.clock_choices.specs.Steps.{bare}
 use Rattle.clock_choices.proofs.CutBack.{cut_back_to, if_none}
 use Rattle.clock_choices.proofs.saturated.Saturated.add_all.Goals as goal

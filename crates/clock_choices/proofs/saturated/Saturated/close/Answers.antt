@@ -1,8 +1,8 @@
 use Rattle.std.proofs.Common.{◌≡◌, ◌∙◌, true, Bool, List, sym, ap, subst}
 use Rattle.std.specs.Prelude.{IfSome, slice_set}
 use Rattle.order_check.specs.Good.{IsGood}
-use Rattle.key_index.specs.SharedIndexes.{IsIndexIn}
 use Rattle.clock_choices.specs.Held.{IsHeld}
+use Rattle.clock_choices.specs.SharedIndexes.{IsIndexIn}
 use Rattle.clock_choices.proofs.SameParts.{good_closed, held_closed, shared_closed}
 use Rattle.clock_choices.proofs.saturated.Saturated.close.Goals as goal
 

@@ -12,7 +12,7 @@ use Rattle.clock_choices.specs.LeftSteps.{steps_left}
 use Rattle.clock_choices.specs.SaturatedState.{SaturatedState, choice_remains, sides_logged}
 use Rattle.clock_choices.specs.Steps.{bare}
 use Rattle.clock_choices.proofs.Cuts.{held_left, length_left, rise_left, within_left}
-use Rattle.clock_choices.proofs.LeftCounts.{logs_left}
+use Rattle.clock_choices.proofs.LeftSteps.{logs_left}
 use Rattle.clock_choices.proofs.saturated.Saturated.cut.Goals as goal
 
 pub can_drop-requires : goal.can_drop-requires

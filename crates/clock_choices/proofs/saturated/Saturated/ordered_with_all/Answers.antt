@@ -1,11 +1,11 @@
-use Rattle.std.proofs.Common.{◌≡◌, true, List, [], get_or, sym, subst, All}
+use Rattle.std.proofs.Common.{◌≡◌, true, [], List, get_or, sym, subst, All}
 use Rattle.std.specs.Prelude.{◌↔◌, Contains}
 use Rattle.txn.specs.declared.transactions.TxnId.{TxnId}
 use Rattle.txn.specs.Transactions.{id_below}
 use Rattle.order_check.specs.Known.{Known}
 use Rattle.session_clocks.specs.Reach.{Reaches}
-use Rattle.key_index.specs.declared.runs.Run.{Run}
-use Rattle.clock_choices.specs.RunsThere.{IsRunThere}
+use Rattle.clock_choices.specs.declared.runs.Run.{Run}
+use Rattle.clock_choices.specs.Index.{IsRunThere}
 use Rattle.clock_choices.specs.OrderedAmong.{IsOrderedAmong}
 use Rattle.clock_choices.specs.Picks.{IsLinkedWithAll, Picks}
 use Rattle.clock_choices.proofs.LinkedAmong.{linked_ordered, runs_there}

@@ -1,6 +1,5 @@
 use Rattle.std.proofs.lemmas.Result.{IfOk-weaker}
-use Rattle.report_checking.proofs.SplitReplies.{Laws}
-use Rattle.report_checking.proofs.SplitOwed.{asked_by, fault_by, owed_told, right_told, alone_told, faulty_by, faulty_right, faulty_alone}
+use Rattle.report_checking.proofs.SplitReplies.{Laws, asked_by, fault_by, owed_told, right_told, alone_told, faulty_by, faulty_right, faulty_alone}
 use Rattle.log_text.specs.declared.names.Names.TheVariants.{Events}
 use Rattle.report_checking.proofs.UnshownReplies.{unshows_split}
 use Rattle.report_checking.proofs.open_scripts.OpenScript.owed_isolated.Goals as goal

@@ -1,4 +1,4 @@
-use Rattle.std.proofs.Common.{◌≡◌, ◌≢◌, ◌++◌, ◌∷◌, [], ℕ, List, Vec, Global, length, arith, ap, sym, subst, subst₂, ◌∙◌}
+use Rattle.std.proofs.Common.{◌≡◌, ◌≢◌, ◌++◌, ◌∷◌, [], ℕ, List, Vec, Global, arith, ap, sym, subst, subst₂, ◌∙◌}
 use Rattle.std.specs.Prelude.{reverse}
 use Rattle.std.specs.Vec.{with_items}
 use Rattle.std.proofs.lemmas.List.{with_items_is}
@@ -13,7 +13,6 @@ use Rattle.session_clocks.specs.Reach.{Reaches}
 use Rattle.session_clocks.specs.Sweeps.{FitTops, FitSpans}
 use Rattle.session_clocks.specs.SavedNumbers.{place_in, IsMoreOf, since, AreTailsSaved, AreSpansSaved}
 use Rattle.session_clocks.proofs.Kept.{HasRow-first, HasRow-count, IsKept-known, IsKept-joined, FitTops-is, FitSpans-is}
-use Rattle.session_clocks.proofs.Limited.{FitTops-limited, FitSpans-limited, AreLowered-limited, AreRaised-limited, AreTailsSaved-limited, AreSpansSaved-limited, AreTailsNoted-limited, AreSpansNoted-limited}
 use Rattle.session_clocks.proofs.Marked.{IsTrail-known, IsTrail-saved, IsTrail-joined, last_mark-push}
 use Rattle.session_clocks.proofs.Noted.{IsFrontOf-same, IsFrontOf-both}
 use Rattle.session_clocks.proofs.Orders.{there_within}
@@ -49,26 +48,6 @@ first_row-requires c =
     let end = subst (λ (s : GraphState). HasNode s (end_of c.args.arc)) (sym c.self.view_is) c.requires.end in
     record { row = rw (c.deref-4.ensures.value, c.deref-5.ensures.value, c.end-2.ensures) (HasRow-first graph.gone.items graph.received.items graph.arcs.items graph.first.items graph.count.items c.self.invariant.0.kept (end_of c.args.arc) end) }
 
-pub tops_to_lower-requires : goal.tops_to_lower-requires
-tops_to_lower-requires c =
-    let graph = c.self.inside in
-    let end = subst (λ (s : GraphState). HasNode s (end_of c.args.arc)) (sym c.self.view_is) c.requires.end in
-    let tops = rw (c.deref-2.ensures.value, c.deref-3.ensures.value, c.start-2.ensures) at c.in_ok-tops.ensures in
-    rw (c.deref-6.ensures.value, c.deref-7.ensures.value, c.end-3.ensures, c.deref-8.ensures.value) record {
-      row = HasRow-count graph.gone.items graph.received.items graph.arcs.items graph.first.items graph.count.items c.self.invariant.0.kept (end_of c.args.arc) end;
-      numbers = tops.len;
-    }
-
-pub starts_to_raise-requires : goal.starts_to_raise-requires
-starts_to_raise-requires c =
-    let graph = c.self.inside in
-    let start = subst (λ (s : GraphState). HasNode s (start_of c.args.arc)) (sym c.self.view_is) c.requires.start in
-    let starts = rw (c.deref-4.ensures.value, c.deref-5.ensures.value, c.end-2.ensures) at c.in_ok-starts.ensures in
-    rw (c.deref-9.ensures.value, c.deref-10.ensures.value, c.start-3.ensures, c.deref-11.ensures.value) record {
-      row = HasRow-first graph.gone.items graph.received.items graph.arcs.items graph.first.items graph.count.items c.self.invariant.0.kept (start_of c.args.arc) start;
-      numbers = starts.len;
-    }
-
 pub save_first-requires-clause-fit : goal.save_first-requires-clause-fit
 save_first-requires-clause-fit c =
     let graph = c.self.inside in
@@ -76,10 +55,8 @@ save_first-requires-clause-fit c =
     let end = subst (λ (s : GraphState). HasNode s (end_of c.args.arc)) (sym c.self.view_is) c.requires.end in
     let tops = rw (c.deref-2.ensures.value, c.deref-3.ensures.value, c.start-2.ensures) at c.in_ok-tops.ensures in
     let starts = rw (c.deref-4.ensures.value, c.deref-5.ensures.value, c.end-2.ensures) at c.in_ok-starts.ensures in
-    let to_lower = rw (c.deref-6.ensures.value, c.deref-7.ensures.value, c.end-3.ensures, c.deref-8.ensures.value) at c.in_ok-tails.ensures in
-    rw (c.deref-12.ensures.value, c.deref-13.ensures.value, c.deref-14.ensures.value, c.deref-15.ensures.value)
-    (FitTops-limited graph.gone.items graph.received.items graph.arcs.items graph.first.items graph.count.items c.self.invariant.0.kept c.args.arc start end c.in_ok-tops.tops.items c.in_ok-starts.starts.items tops starts c.in_ok-tails.tails.items to_lower (length c.in_ok-starts.starts.items)
-    (FitTops-is graph.gone.items graph.received.items graph.arcs.items graph.first.items graph.count.items c.self.invariant.0.kept c.args.arc start end c.in_ok-tops.tops.items c.in_ok-starts.starts.items tops starts))
+    rw (c.deref-6.ensures.value, c.deref-7.ensures.value, c.deref-8.ensures.value, c.deref-9.ensures.value)
+    (FitTops-is graph.gone.items graph.received.items graph.arcs.items graph.first.items graph.count.items c.self.invariant.0.kept c.args.arc start end c.in_ok-tops.tops.items c.in_ok-starts.starts.items tops starts)
 
 pub save_count-requires-clause-fit : goal.save_count-requires-clause-fit
 save_count-requires-clause-fit c =
@@ -88,10 +65,8 @@ save_count-requires-clause-fit c =
     let end = subst (λ (s : GraphState). HasNode s (end_of c.args.arc)) (sym c.self.view_is) c.requires.end in
     let tops = rw (c.deref-2.ensures.value, c.deref-3.ensures.value, c.start-2.ensures) at c.in_ok-tops.ensures in
     let starts = rw (c.deref-4.ensures.value, c.deref-5.ensures.value, c.end-2.ensures) at c.in_ok-starts.ensures in
-    let to_raise = rw (c.deref-9.ensures.value, c.deref-10.ensures.value, c.start-3.ensures, c.deref-11.ensures.value) at c.in_ok-spans.ensures in
-    rw (c.deref-16.ensures.value, c.deref-17.ensures.value, c.deref-18.ensures.value, c.deref-19.ensures.value, c.deref-20.ensures.value)
-    (FitSpans-limited graph.gone.items graph.received.items graph.arcs.items graph.first.items graph.count.items c.self.invariant.0.kept c.args.arc start end c.in_ok-tops.tops.items c.in_ok-starts.starts.items tops starts c.in_ok-spans.spans.items to_raise (length c.in_ok-tops.tops.items)
-    (FitSpans-is graph.gone.items graph.received.items graph.arcs.items graph.first.items graph.count.items c.self.invariant.0.kept c.args.arc start end c.in_ok-tops.tops.items c.in_ok-starts.starts.items tops starts))
+    rw (c.deref-10.ensures.value, c.deref-11.ensures.value, c.deref-12.ensures.value, c.deref-13.ensures.value, c.deref-14.ensures.value)
+    (FitSpans-is graph.gone.items graph.received.items graph.arcs.items graph.first.items graph.count.items c.self.invariant.0.kept c.args.arc start end c.in_ok-tops.tops.items c.in_ok-starts.starts.items tops starts)
 
 pub lower_all-requires-clause-fit : goal.lower_all-requires-clause-fit
 lower_all-requires-clause-fit c =
@@ -100,10 +75,8 @@ lower_all-requires-clause-fit c =
     let end = subst (λ (s : GraphState). HasNode s (end_of c.args.arc)) (sym c.self.view_is) c.requires.end in
     let tops = rw (c.deref-2.ensures.value, c.deref-3.ensures.value, c.start-2.ensures) at c.in_ok-tops.ensures in
     let starts = rw (c.deref-4.ensures.value, c.deref-5.ensures.value, c.end-2.ensures) at c.in_ok-starts.ensures in
-    let to_lower = rw (c.deref-6.ensures.value, c.deref-7.ensures.value, c.end-3.ensures, c.deref-8.ensures.value) at c.in_ok-tails.ensures in
-    rw (c.deref_mut.ensures.value, c.deref-29.ensures.value, c.deref-30.ensures.value, c.deref-31.ensures.value)
-    (FitTops-limited graph.gone.items graph.received.items graph.arcs.items graph.first.items graph.count.items c.self.invariant.0.kept c.args.arc start end c.in_ok-tops.tops.items c.in_ok-starts.starts.items tops starts c.in_ok-tails.tails.items to_lower (length c.in_ok-starts.starts.items)
-    (FitTops-is graph.gone.items graph.received.items graph.arcs.items graph.first.items graph.count.items c.self.invariant.0.kept c.args.arc start end c.in_ok-tops.tops.items c.in_ok-starts.starts.items tops starts))
+    rw (c.deref_mut.ensures.value, c.deref-23.ensures.value, c.deref-24.ensures.value, c.deref-25.ensures.value)
+    (FitTops-is graph.gone.items graph.received.items graph.arcs.items graph.first.items graph.count.items c.self.invariant.0.kept c.args.arc start end c.in_ok-tops.tops.items c.in_ok-starts.starts.items tops starts)
 
 pub raise_all-requires-clause-fit : goal.raise_all-requires-clause-fit
 raise_all-requires-clause-fit c =
@@ -112,15 +85,13 @@ raise_all-requires-clause-fit c =
     let end = subst (λ (s : GraphState). HasNode s (end_of c.args.arc)) (sym c.self.view_is) c.requires.end in
     let tops = rw (c.deref-2.ensures.value, c.deref-3.ensures.value, c.start-2.ensures) at c.in_ok-tops.ensures in
     let starts = rw (c.deref-4.ensures.value, c.deref-5.ensures.value, c.end-2.ensures) at c.in_ok-starts.ensures in
-    let to_raise = rw (c.deref-9.ensures.value, c.deref-10.ensures.value, c.start-3.ensures, c.deref-11.ensures.value) at c.in_ok-spans.ensures in
-    rw (c.deref_mut-2.ensures.value, c.deref-32.ensures.value, c.deref-33.ensures.value, c.deref-34.ensures.value, c.deref-35.ensures.value)
-    (FitSpans-limited graph.gone.items graph.received.items graph.arcs.items graph.first.items graph.count.items c.self.invariant.0.kept c.args.arc start end c.in_ok-tops.tops.items c.in_ok-starts.starts.items tops starts c.in_ok-spans.spans.items to_raise (length c.in_ok-tops.tops.items)
-    (FitSpans-is graph.gone.items graph.received.items graph.arcs.items graph.first.items graph.count.items c.self.invariant.0.kept c.args.arc start end c.in_ok-tops.tops.items c.in_ok-starts.starts.items tops starts))
+    rw (c.deref_mut-2.ensures.value, c.deref-26.ensures.value, c.deref-27.ensures.value, c.deref-28.ensures.value, c.deref-29.ensures.value)
+    (FitSpans-is graph.gone.items graph.received.items graph.arcs.items graph.first.items graph.count.items c.self.invariant.0.kept c.args.arc start end c.in_ok-tops.tops.items c.in_ok-starts.starts.items tops starts)
 
 pub invariant_of-self-in_err-save_first : goal.invariant_of-self-in_err-save_first
 invariant_of-self-in_err-save_first c =
     let graph = c.self.inside in
-    let more = subst (λ lines. IsMoreOf lines graph.trail.first.items c.save_first.new.self.first.items) c.deref-12.ensures.value c.save_first.ensures.more in
+    let more = subst (λ lines. IsMoreOf lines graph.trail.first.items c.save_first.new.self.first.items) c.deref-6.ensures.value c.save_first.ensures.more in
     let same = subst (λ (v : Vec Saved Global). IsMoreOf graph.count.items graph.trail.count.items v.items) (sym c.save_first.ensures.count) (IsMoreOf-none graph.count.items graph.trail.count.items) in (
       record {
         kept = c.self.invariant.0.kept;
@@ -132,9 +103,9 @@ invariant_of-self-in_err-save_first c =
 pub invariant_of-self-in_err-save_count : goal.invariant_of-self-in_err-save_count
 invariant_of-self-in_err-save_count c =
     let graph = c.self.inside in
-    let first = subst (λ lines. IsMoreOf lines graph.trail.first.items c.save_first.new.self.first.items) c.deref-12.ensures.value c.save_first.ensures.more in
+    let first = subst (λ lines. IsMoreOf lines graph.trail.first.items c.save_first.new.self.first.items) c.deref-6.ensures.value c.save_first.ensures.more in
     let more_first = subst (λ (v : Vec Saved Global). IsMoreOf graph.first.items graph.trail.first.items v.items) (sym c.save_count.ensures.first) first in
-    let count = subst (λ lines. IsMoreOf lines c.save_first.new.self.count.items c.save_count.new.self.count.items) c.deref-16.ensures.value c.save_count.ensures.more in
+    let count = subst (λ lines. IsMoreOf lines c.save_first.new.self.count.items c.save_count.new.self.count.items) c.deref-10.ensures.value c.save_count.ensures.more in
     let more_count = subst (λ (v : Vec Saved Global). IsMoreOf graph.count.items v.items c.save_count.new.self.count.items) c.save_first.ensures.count count in (
       record {
         kept = c.self.invariant.0.kept;
@@ -146,9 +117,9 @@ invariant_of-self-in_err-save_count c =
 pub invariant_of-self-in_err-push_arc-2 : goal.invariant_of-self-in_err-push_arc-2
 invariant_of-self-in_err-push_arc-2 c =
     let graph = c.self.inside in
-    let first = subst (λ lines. IsMoreOf lines graph.trail.first.items c.save_first.new.self.first.items) c.deref-12.ensures.value c.save_first.ensures.more in
+    let first = subst (λ lines. IsMoreOf lines graph.trail.first.items c.save_first.new.self.first.items) c.deref-6.ensures.value c.save_first.ensures.more in
     let more_first = subst (λ (v : Vec Saved Global). IsMoreOf graph.first.items graph.trail.first.items v.items) (sym c.save_count.ensures.first) first in
-    let count = subst (λ lines. IsMoreOf lines c.save_first.new.self.count.items c.save_count.new.self.count.items) c.deref-16.ensures.value c.save_count.ensures.more in
+    let count = subst (λ lines. IsMoreOf lines c.save_first.new.self.count.items c.save_count.new.self.count.items) c.deref-10.ensures.value c.save_count.ensures.more in
     let more_count = subst (λ (v : Vec Saved Global). IsMoreOf graph.count.items v.items c.save_count.new.self.count.items) c.save_first.ensures.count count in
     rw c.in_err-push_arc-2.ensures.err (
       record {
@@ -165,25 +136,17 @@ invariant_of-self-2 c =
     let end = subst (λ (s : GraphState). HasNode s (end_of c.args.arc)) (sym c.self.view_is) c.requires.end in
     let tops = rw (c.deref-2.ensures.value, c.deref-3.ensures.value, c.start-2.ensures) at c.in_ok-tops.ensures in
     let starts = rw (c.deref-4.ensures.value, c.deref-5.ensures.value, c.end-2.ensures) at c.in_ok-starts.ensures in
-    let to_lower = rw (c.deref-6.ensures.value, c.deref-7.ensures.value, c.end-3.ensures, c.deref-8.ensures.value) at c.in_ok-tails.ensures in
-    let to_raise = rw (c.deref-9.ensures.value, c.deref-10.ensures.value, c.start-3.ensures, c.deref-11.ensures.value) at c.in_ok-spans.ensures in
-    let lowered_some = rw (c.deref_mut.ensures.value, c.deref-29.ensures.value, c.deref-30.ensures.value, c.end-6.ensures, c.deref-31.ensures.value) at c.lower_all.ensures in
-    let lowered = AreLowered-limited graph.gone.items graph.received.items graph.arcs.items graph.first.items graph.count.items c.self.invariant.0.kept c.args.arc start end c.in_ok-tops.tops.items c.in_ok-starts.starts.items tops starts c.in_ok-tails.tails.items to_lower c.lower_all.new.lines lowered_some in
-    let raised_some = rw (c.deref_mut-2.ensures.value, c.deref-32.ensures.value, c.deref-33.ensures.value, c.deref-34.ensures.value, c.start-6.ensures, c.deref-35.ensures.value) at c.raise_all.ensures in
-    let raised = AreRaised-limited graph.gone.items graph.received.items graph.arcs.items graph.first.items graph.count.items c.self.invariant.0.kept c.args.arc start end c.in_ok-tops.tops.items c.in_ok-starts.starts.items tops starts c.in_ok-spans.spans.items to_raise c.raise_all.new.lines raised_some in
-    let more_first_1 = subst (λ lines. IsMoreOf lines graph.trail.first.items c.save_first.new.self.first.items) c.deref-12.ensures.value c.save_first.ensures.more in
+    let lowered = rw (c.deref_mut.ensures.value, c.deref-23.ensures.value, c.deref-24.ensures.value, c.end-5.ensures, c.deref-25.ensures.value) at c.lower_all.ensures in
+    let raised = rw (c.deref_mut-2.ensures.value, c.deref-26.ensures.value, c.deref-27.ensures.value, c.deref-28.ensures.value, c.start-5.ensures, c.deref-29.ensures.value) at c.raise_all.ensures in
+    let more_first_1 = subst (λ lines. IsMoreOf lines graph.trail.first.items c.save_first.new.self.first.items) c.deref-6.ensures.value c.save_first.ensures.more in
     let more_first = subst (λ (v : Vec Saved Global). IsMoreOf graph.first.items graph.trail.first.items v.items) (sym c.save_count.ensures.first) more_first_1 in
-    let more_count_1 = subst (λ lines. IsMoreOf lines c.save_first.new.self.count.items c.save_count.new.self.count.items) c.deref-16.ensures.value c.save_count.ensures.more in
+    let more_count_1 = subst (λ lines. IsMoreOf lines c.save_first.new.self.count.items c.save_count.new.self.count.items) c.deref-10.ensures.value c.save_count.ensures.more in
     let more_count = subst (λ (v : Vec Saved Global). IsMoreOf graph.count.items v.items c.save_count.new.self.count.items) c.save_first.ensures.count more_count_1 in
-    let saved_first_1 = rw (c.deref-12.ensures.value, c.deref-13.ensures.value, c.deref-14.ensures.value, c.end-4.ensures, c.deref-15.ensures.value) at c.in_ok-save_first.ensures.saved in
-    let saved_first_2 = subst (λ (v : Vec Saved Global). graph.trail.marks.items ≢ [] → AreTailsSaved graph.first.items (since graph.trail.first.items v.items) graph.gone.items c.in_ok-tails.tails.items (end_of c.args.arc) c.in_ok-starts.starts.items) (sym c.save_count.ensures.first) saved_first_1 in
-    let saved_first : graph.trail.marks.items ≢ [] → AreTailsSaved graph.first.items (since graph.trail.first.items c.save_count.new.self.first.items) graph.gone.items c.in_ok-tops.tops.items (end_of c.args.arc) c.in_ok-starts.starts.items = λ some.
-    AreTailsSaved-limited graph.gone.items graph.received.items graph.arcs.items graph.first.items graph.count.items c.self.invariant.0.kept c.args.arc start end c.in_ok-tops.tops.items c.in_ok-starts.starts.items tops starts c.in_ok-tails.tails.items to_lower (since graph.trail.first.items c.save_count.new.self.first.items) (saved_first_2 some) in
-    let saved_count_1 = rw (c.deref-16.ensures.value, c.deref-17.ensures.value, c.deref-18.ensures.value, c.deref-19.ensures.value, c.start-4.ensures, c.deref-20.ensures.value) at c.in_ok-save_count.ensures.saved in
-    let saved_count_2 = subst (λ (v : Vec Saved Global). c.save_first.new.self.marks.items ≢ [] → AreSpansSaved graph.count.items (since v.items c.save_count.new.self.count.items) graph.gone.items graph.received.items c.in_ok-spans.spans.items (start_of c.args.arc) c.in_ok-tops.tops.items) c.save_first.ensures.count saved_count_1 in
-    let saved_count_3 = subst (λ (v : Vec Mark Global). v.items ≢ [] → AreSpansSaved graph.count.items (since graph.trail.count.items c.save_count.new.self.count.items) graph.gone.items graph.received.items c.in_ok-spans.spans.items (start_of c.args.arc) c.in_ok-tops.tops.items) c.save_first.ensures.marks saved_count_2 in
-    let saved_count : graph.trail.marks.items ≢ [] → AreSpansSaved graph.count.items (since graph.trail.count.items c.save_count.new.self.count.items) graph.gone.items graph.received.items c.in_ok-starts.starts.items (start_of c.args.arc) c.in_ok-tops.tops.items = λ some.
-    AreSpansSaved-limited graph.gone.items graph.received.items graph.arcs.items graph.first.items graph.count.items c.self.invariant.0.kept c.args.arc start end c.in_ok-tops.tops.items c.in_ok-starts.starts.items tops starts c.in_ok-spans.spans.items to_raise (since graph.trail.count.items c.save_count.new.self.count.items) (saved_count_3 some) in
+    let saved_first_1 = rw (c.deref-6.ensures.value, c.deref-7.ensures.value, c.deref-8.ensures.value, c.end-3.ensures, c.deref-9.ensures.value) at c.in_ok-save_first.ensures.saved in
+    let saved_first = subst (λ (v : Vec Saved Global). graph.trail.marks.items ≢ [] → AreTailsSaved graph.first.items (since graph.trail.first.items v.items) graph.gone.items c.in_ok-tops.tops.items (end_of c.args.arc) c.in_ok-starts.starts.items) (sym c.save_count.ensures.first) saved_first_1 in
+    let saved_count_1 = rw (c.deref-10.ensures.value, c.deref-11.ensures.value, c.deref-12.ensures.value, c.deref-13.ensures.value, c.start-3.ensures, c.deref-14.ensures.value) at c.in_ok-save_count.ensures.saved in
+    let saved_count_2 = subst (λ (v : Vec Saved Global). c.save_first.new.self.marks.items ≢ [] → AreSpansSaved graph.count.items (since v.items c.save_count.new.self.count.items) graph.gone.items graph.received.items c.in_ok-starts.starts.items (start_of c.args.arc) c.in_ok-tops.tops.items) c.save_first.ensures.count saved_count_1 in
+    let saved_count = subst (λ (v : Vec Mark Global). v.items ≢ [] → AreSpansSaved graph.count.items (since graph.trail.count.items c.save_count.new.self.count.items) graph.gone.items graph.received.items c.in_ok-starts.starts.items (start_of c.args.arc) c.in_ok-tops.tops.items) c.save_first.ensures.marks saved_count_2 in
     let kept = IsKept-joined graph.gone.items graph.received.items graph.arcs.items graph.first.items graph.count.items c.self.invariant.0.kept c.args.arc start end c.in_ok-tops.tops.items c.in_ok-starts.starts.items tops starts c.lower_all.new.lines c.raise_all.new.lines lowered raised in
     let start_within = there_within graph.gone.items graph.received.items (start_of c.args.arc) c.self.invariant.0.kept.sessions start in
     let end_within = there_within graph.gone.items graph.received.items (end_of c.args.arc) c.self.invariant.0.kept.sessions end in
@@ -216,14 +179,12 @@ note_tails-requires c =
     let end = subst (λ (s : GraphState). HasNode s (end_of c.args.arc)) (sym c.self.view_is) c.requires.end in
     let tops = rw (c.deref-2.ensures.value, c.deref-3.ensures.value, c.start-2.ensures) at c.in_ok-tops.ensures in
     let starts = rw (c.deref-4.ensures.value, c.deref-5.ensures.value, c.end-2.ensures) at c.in_ok-starts.ensures in
-    let to_fit = FitTops-is graph.gone.items graph.received.items graph.arcs.items graph.first.items graph.count.items kept c.args.arc start end c.in_ok-tops.tops.items c.in_ok-starts.starts.items tops starts in
-    let to_lower = rw (c.deref-6.ensures.value, c.deref-7.ensures.value, c.end-3.ensures, c.deref-8.ensures.value) at c.in_ok-tails.ensures in
-    let fit = FitTops-limited graph.gone.items graph.received.items graph.arcs.items graph.first.items graph.count.items kept c.args.arc start end c.in_ok-tops.tops.items c.in_ok-starts.starts.items tops starts c.in_ok-tails.tails.items to_lower (length c.in_ok-starts.starts.items) to_fit in
+    let fit = FitTops-is graph.gone.items graph.received.items graph.arcs.items graph.first.items graph.count.items kept c.args.arc start end c.in_ok-tops.tops.items c.in_ok-starts.starts.items tops starts in
     let within = there_within graph.gone.items graph.received.items (end_of c.args.arc) kept.sessions end in
-    rw (c.deref-21.ensures.value, c.deref-22.ensures.value, c.deref-23.ensures.value, c.end-5.ensures) record {
+    rw (c.deref-15.ensures.value, c.deref-16.ensures.value, c.deref-17.ensures.value, c.end-4.ensures) record {
       session = within;
       few = omega (arith, kept.first_lines.sessions, kept.few);
-      fit = subst (λ w. FitTops graph.first.items graph.gone.items c.in_ok-tails.tails.items w) starts.len fit;
+      fit = subst (λ w. FitTops graph.first.items graph.gone.items c.in_ok-tops.tops.items w) starts.len fit;
     }
 
 pub note_spans-requires : goal.note_spans-requires
@@ -234,22 +195,20 @@ note_spans-requires c =
     let end = subst (λ (s : GraphState). HasNode s (end_of c.args.arc)) (sym c.self.view_is) c.requires.end in
     let tops = rw (c.deref-2.ensures.value, c.deref-3.ensures.value, c.start-2.ensures) at c.in_ok-tops.ensures in
     let starts = rw (c.deref-4.ensures.value, c.deref-5.ensures.value, c.end-2.ensures) at c.in_ok-starts.ensures in
-    let to_fit = FitSpans-is graph.gone.items graph.received.items graph.arcs.items graph.first.items graph.count.items kept c.args.arc start end c.in_ok-tops.tops.items c.in_ok-starts.starts.items tops starts in
-    let to_raise = rw (c.deref-9.ensures.value, c.deref-10.ensures.value, c.start-3.ensures, c.deref-11.ensures.value) at c.in_ok-spans.ensures in
-    let fit = FitSpans-limited graph.gone.items graph.received.items graph.arcs.items graph.first.items graph.count.items kept c.args.arc start end c.in_ok-tops.tops.items c.in_ok-starts.starts.items tops starts c.in_ok-spans.spans.items to_raise (length c.in_ok-tops.tops.items) to_fit in
+    let fit = FitSpans-is graph.gone.items graph.received.items graph.arcs.items graph.first.items graph.count.items kept c.args.arc start end c.in_ok-tops.tops.items c.in_ok-starts.starts.items tops starts in
     let within = there_within graph.gone.items graph.received.items (start_of c.args.arc) kept.sessions start in
-    rw (c.deref-24.ensures.value, c.deref-25.ensures.value, c.deref-26.ensures.value, c.deref-27.ensures.value, c.start-5.ensures) record {
+    rw (c.deref-18.ensures.value, c.deref-19.ensures.value, c.deref-20.ensures.value, c.deref-21.ensures.value, c.start-4.ensures) record {
       session = within;
       few = omega (arith, kept.count_lines.sessions, kept.few);
-      fit = subst (λ w. FitSpans graph.count.items graph.gone.items graph.received.items c.in_ok-spans.spans.items w) tops.len fit;
+      fit = subst (λ w. FitSpans graph.count.items graph.gone.items graph.received.items c.in_ok-starts.starts.items w) tops.len fit;
     }
 
 pub invariant_of-self-in_err-note_tails : goal.invariant_of-self-in_err-note_tails
 invariant_of-self-in_err-note_tails c =
     let graph = c.self.inside in
-    let first = subst (λ lines. IsMoreOf lines graph.trail.first.items c.save_first.new.self.first.items) c.deref-12.ensures.value c.save_first.ensures.more in
+    let first = subst (λ lines. IsMoreOf lines graph.trail.first.items c.save_first.new.self.first.items) c.deref-6.ensures.value c.save_first.ensures.more in
     let more_first = subst (λ (v : Vec Saved Global). IsMoreOf graph.first.items graph.trail.first.items v.items) (sym c.save_count.ensures.first) first in
-    let count = subst (λ lines. IsMoreOf lines c.save_first.new.self.count.items c.save_count.new.self.count.items) c.deref-16.ensures.value c.save_count.ensures.more in
+    let count = subst (λ lines. IsMoreOf lines c.save_first.new.self.count.items c.save_count.new.self.count.items) c.deref-10.ensures.value c.save_count.ensures.more in
     let more_count = subst (λ (v : Vec Saved Global). IsMoreOf graph.count.items v.items c.save_count.new.self.count.items) c.save_first.ensures.count count in (
       record {
         kept = c.self.invariant.0.kept;
@@ -261,9 +220,9 @@ invariant_of-self-in_err-note_tails c =
 pub invariant_of-self-in_err-note_spans : goal.invariant_of-self-in_err-note_spans
 invariant_of-self-in_err-note_spans c =
     let graph = c.self.inside in
-    let first = subst (λ lines. IsMoreOf lines graph.trail.first.items c.save_first.new.self.first.items) c.deref-12.ensures.value c.save_first.ensures.more in
+    let first = subst (λ lines. IsMoreOf lines graph.trail.first.items c.save_first.new.self.first.items) c.deref-6.ensures.value c.save_first.ensures.more in
     let more_first = subst (λ (v : Vec Saved Global). IsMoreOf graph.first.items graph.trail.first.items v.items) (sym c.save_count.ensures.first) first in
-    let count = subst (λ lines. IsMoreOf lines c.save_first.new.self.count.items c.save_count.new.self.count.items) c.deref-16.ensures.value c.save_count.ensures.more in
+    let count = subst (λ lines. IsMoreOf lines c.save_first.new.self.count.items c.save_count.new.self.count.items) c.deref-10.ensures.value c.save_count.ensures.more in
     let more_count = subst (λ (v : Vec Saved Global). IsMoreOf graph.count.items v.items c.save_count.new.self.count.items) c.save_first.ensures.count count in (
       record {
         kept = c.self.invariant.0.kept;
@@ -285,15 +244,11 @@ returns-clause-told c =
     let end = subst (λ (s : GraphState). HasNode s (end_of c.args.arc)) (sym c.self.view_is) c.requires.end in
     let tops = rw (c.deref-2.ensures.value, c.deref-3.ensures.value, c.start-2.ensures) at c.in_ok-tops.ensures in
     let starts = rw (c.deref-4.ensures.value, c.deref-5.ensures.value, c.end-2.ensures) at c.in_ok-starts.ensures in
-    let to_lower = rw (c.deref-6.ensures.value, c.deref-7.ensures.value, c.end-3.ensures, c.deref-8.ensures.value) at c.in_ok-tails.ensures in
-    let to_raise = rw (c.deref-9.ensures.value, c.deref-10.ensures.value, c.start-3.ensures, c.deref-11.ensures.value) at c.in_ok-spans.ensures in
-    let tails = rw (c.deref-21.ensures.value, c.deref-22.ensures.value, c.deref-23.ensures.value, c.end-5.ensures) at c.in_ok-note_tails.ensures.noted in
-    let spans = rw (c.deref-24.ensures.value, c.deref-25.ensures.value, c.deref-26.ensures.value, c.deref-27.ensures.value, c.start-5.ensures) at c.in_ok-note_spans.ensures.noted in
+    let tails = rw (c.deref-15.ensures.value, c.deref-16.ensures.value, c.deref-17.ensures.value, c.end-4.ensures) at c.in_ok-note_tails.ensures.noted in
+    let spans = rw (c.deref-18.ensures.value, c.deref-19.ensures.value, c.deref-20.ensures.value, c.deref-21.ensures.value, c.start-4.ensures) at c.in_ok-note_spans.ensures.noted in
     subst (λ (s : GraphState). AreTold s.gone s.received s.arcs c.args.arc c.args.told.now.items c.note_spans.new.noted.items) c.self.view_is
     (AreTold-noted graph.gone.items graph.received.items graph.arcs.items graph.first.items graph.count.items kept c.args.arc start end c.in_ok-tops.tops.items c.in_ok-starts.starts.items tops starts
-    c.args.told.now.items c.note_tails.new.noted.items c.note_spans.new.noted.items c.note_tails.ensures.front c.note_spans.ensures.front
-    (AreTailsNoted-limited graph.gone.items graph.received.items graph.arcs.items graph.first.items graph.count.items kept c.args.arc start end c.in_ok-tops.tops.items c.in_ok-starts.starts.items tops starts c.in_ok-tails.tails.items to_lower c.args.told.now.items c.note_tails.new.noted.items tails)
-    (AreSpansNoted-limited graph.gone.items graph.received.items graph.arcs.items graph.first.items graph.count.items kept c.args.arc start end c.in_ok-tops.tops.items c.in_ok-starts.starts.items tops starts c.in_ok-spans.spans.items to_raise c.note_tails.new.noted.items c.note_spans.new.noted.items spans))
+    c.args.told.now.items c.note_tails.new.noted.items c.note_spans.new.noted.items c.note_tails.ensures.front c.note_spans.ensures.front tails spans)
 
 pub returns-in_err-note_spans-clause-front : goal.returns-in_err-note_spans-clause-front
 returns-in_err-note_spans-clause-front c = IsFrontOf-both c.args.told.now.items c.note_tails.new.noted.items c.note_spans.new.noted.items c.note_tails.ensures.front c.note_spans.ensures.front
@@ -312,12 +267,6 @@ returns-in_err-tops-clause-front c = IsFrontOf-same c.args.told.now.items
 
 pub returns-in_err-starts-clause-front : goal.returns-in_err-starts-clause-front
 returns-in_err-starts-clause-front c = IsFrontOf-same c.args.told.now.items
-
-pub returns-in_err-tails-clause-front : goal.returns-in_err-tails-clause-front
-returns-in_err-tails-clause-front c = IsFrontOf-same c.args.told.now.items
-
-pub returns-in_err-spans-clause-front : goal.returns-in_err-spans-clause-front
-returns-in_err-spans-clause-front c = IsFrontOf-same c.args.told.now.items
 
 pub returns-in_err-save_first-clause-front : goal.returns-in_err-save_first-clause-front
 returns-in_err-save_first-clause-front c = IsFrontOf-same c.args.told.now.items

@@ -1,6 +1,0 @@
-use Rattle.std.proofs.Common.{take}
-use Rattle.key_index.specs.Index.{IsInRuns}
-use Rattle.key_index.proofs.index.is_in_runs.Given as goal
-
-abbrev pub invariant-loop-run : goal.invariant-loop-run
-invariant-loop-run l = ¬ IsInRuns (take l.run-index l.runs) l.id

@@ -1,9 +1,0 @@
-use Rattle.std.proofs.Common.{Contains, take}
-use Rattle.txn.specs.declared.transactions.TxnId.{TxnId}
-use Rattle.key_index.specs.Adds.{Adds, Among}
-use Rattle.key_index.specs.Index.{reads_of}
-use Rattle.key_index.specs.Indexing.{IsReadFrom}
-use Rattle.key_index.proofs.indexing.add_reads.Given as goal
-
-abbrev pub invariant-loop-key : goal.invariant-loop-key
-invariant-loop-key l = (other : TxnId) → Adds (Contains (reads_of l.initial.reads.items other)) (Contains (reads_of l.reads.items other)) (Among (IsReadFrom l.reader other) (take l.key-index l.list))

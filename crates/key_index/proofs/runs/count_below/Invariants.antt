@@ -1,6 +1,0 @@
-use Rattle.std.proofs.Common.{◌^◌}
-use Rattle.key_index.specs.Runs.{IsBetween}
-use Rattle.key_index.proofs.runs.count_below.Given as goal
-
-abbrev pub invariant-loop-power : goal.invariant-loop-power
-invariant-loop-power l = IsBetween l.numbers l.bound l.low (2 ^ l.power)

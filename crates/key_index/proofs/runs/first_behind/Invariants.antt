@@ -1,5 +1,0 @@
-use Rattle.key_index.proofs.Numbers.{HaveTwo}
-use Rattle.key_index.proofs.runs.first_behind.Given as goal
-
-abbrev pub invariant-loop-place : goal.invariant-loop-place
-invariant-loop-place l = HaveTwo l.session l.numbers l.reader l.writer l.count l.place

@@ -1,4 +1,0 @@
-use Rattle.key_index.proofs.runs.first_from.Goals as goal
-
-pub returns : goal.returns
-returns c = c.first_behind.ensures c.args.bound c.count_below-count.ensures
