@@ -2,25 +2,15 @@ package slot
 
 import (
 	"context"
-	"errors"
 	"testing"
 
 	"github.com/jackc/pgconn"
-
-	"zanteyard/cluster"
 )
 
 // TestInspectorReplaced: after the function of pg_walinspect was looked up, whoever owns its schema puts another one in
 // its place. The planner runs that one, even if no row asks for it.
 func TestInspectorReplaced(t *testing.T) {
-	c, err := cluster.Start(nil, nil)
-	if errors.Is(err, cluster.ErrMissing) {
-		t.Skip(err)
-	}
-	if err != nil {
-		t.Fatal(err)
-	}
-	defer c.Stop()
+	c := newServer(t)
 	ctx := context.Background()
 	run := func(user, text string) string {
 		t.Helper()

@@ -2,25 +2,16 @@ package slot
 
 import (
 	"context"
-	"errors"
 	"testing"
 	"time"
 
-	"zanteyard/cluster"
 	"zanteyard/own"
 )
 
 // TestStandstill: the server waits for the slot's reader for as long as everything may stand still, or longer if it is set
 // to.
 func TestStandstill(t *testing.T) {
-	c, err := cluster.Start(nil, nil)
-	if errors.Is(err, cluster.ErrMissing) {
-		t.Skip(err)
-	}
-	if err != nil {
-		t.Fatal(err)
-	}
-	defer c.Stop()
+	c := newServer(t)
 	ctx, cancel := context.WithTimeout(context.Background(), 2*time.Minute)
 	defer cancel()
 	for _, x := range []struct{ set, waits string }{{"60s", "5min"}, {"1ms", "5min"}, {"5min", "5min"}, {"10min", "10min"}, {"0", "0"}} {

@@ -2,24 +2,15 @@ package slot
 
 import (
 	"context"
-	"errors"
 	"testing"
 	"time"
 
-	"zanteyard/cluster"
 	"zanteyard/own"
 )
 
 // TestSettingsReadAgain: a place says once that the server's settings were read again, and not because the connection is new.
 func TestSettingsReadAgain(t *testing.T) {
-	c, err := cluster.Start(nil, nil)
-	if errors.Is(err, cluster.ErrMissing) {
-		t.Skip(err)
-	}
-	if err != nil {
-		t.Fatal(err)
-	}
-	defer c.Stop()
+	c := newServer(t)
 	ctx, cancel := context.WithTimeout(context.Background(), time.Minute)
 	defer cancel()
 	control, _, err := NewControl(ctx, Options{Source: c.DSN("postgres", "postgres")})

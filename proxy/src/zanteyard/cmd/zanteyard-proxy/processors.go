@@ -22,11 +22,11 @@ const (
 )
 
 // fewProcessors makes the program use no more processors at once than its traffic needs: one for the loop that passes
-// messages on, one for everything else, and more of each when these are busy, or more loops when they are kept from it
-// (wanted). While a processor is idle, Go wakes a thread for each message that arrives for a goroutine, which takes
-// longer than handling it; and a second loop takes some of the messages that the first one would have handled together.
-// GOMAXPROCS in the environment fixes the number of processors for goroutines, whatever the traffic. It returns when
-// ctx ends.
+// messages on, one for everything else, more of each when these are busy, and more loops when the kernel lets theirs
+// wait for a processor (wanted). While a processor is idle, Go wakes a thread for each message that arrives for a
+// goroutine, which takes longer than handling it; and a second loop takes some of the messages that the first one would
+// have handled together. GOMAXPROCS in the environment fixes the number of processors for goroutines, whatever the
+// traffic. It returns when ctx ends.
 func fewProcessors(ctx context.Context, loops *loop.Loops) {
 	most := runtime.NumCPU()
 	fixed := os.Getenv("GOMAXPROCS") != ""
